@@ -1,0 +1,122 @@
+//! Digests: values of a fixed number of bytes.
+ghost use mathlib.Core.Path.{_≡_};
+ghost use mathlib.Core.List.{List, _++_};
+ghost use Prim.Native.Nat.{ℕ, _^_, _<_, _≤_};
+ghost use lib.ListN.{length, take, drop};
+ghost use Rattle.order.specs.Orders.{lexLess};
+ghost use Rattle.std.specs.Options.{Cases as BySome};
+ghost use Rattle.std.specs.Results.{Cases};
+ghost use Rattle.refusals.specs.Refusals.{refusal, bytesNeeded, refusalOf};
+ghost use Rattle.digests.specs.BigEndian.{bigEndian};
+use order::Bytes32Equality;
+use order::Bytes32Order;
+use order::TotalOrder;
+use order::U64Equality;
+use order::U64Order;
+use refusals::WriteError;
+
+/// A value of so many bytes, the same number for every value of the type.
+pub trait Digest: TotalOrder + Copy {
+    // the bytes of a digest
+    ghost image: { Self → List ℕ };
+
+    // how many they are
+    ghost size: { ℕ };
+
+    // the values that code can hold
+    ghost valid: { Self → Type 0 };
+
+    law long: { (a : Self) → valid a → length (image a) ≡ size };
+
+    law one: { (a b : Self) → valid a → valid b → image a ≡ image b → a ≡ b };
+
+    law small: { size ≤ 255 };
+
+    /// How many bytes a digest of this type has.
+    fn size() -> usize
+        ensures { λ r. ⌜ r ≡ size ⌝ };
+
+    /// The digest at the front of `bytes`, or none where they are too few.
+    fn read(bytes: &[u8]) -> Option<Self>
+        ensures { λ r. ⌜ BySome r (length (now (bytes .entry)) < size) (λ d. (size ≤ length (now (bytes .entry))) × (image d ≡ take size (now (bytes .entry))) × valid d) ⌝ };
+
+    /// How many bytes this digest has. Digests compare as their bytes do, from the first.
+    fn encode_size(&self) -> usize
+        ensures value { λ r. ⌜ r ≡ size ⌝ }
+        ensures holds { λ _. ⌜ valid (now (self .entry)) ⌝ }
+        ensures order { λ _. ⌜ ((a b : Self) → valid a → valid b → Self·TotalOrder .less a b ≡ lexLess (image a) (image b)) ⌝ };
+
+    /// Writes the digest at the front of `out`, and answers how many bytes that took.
+    fn write(&self, out: &mut [u8]) -> Result<usize, WriteError>
+        ensures { λ r. ⌜ Cases r (λ k. (k ≡ size) × (now (out .exit) ≡ image (now (self .entry)) ++ drop size (now (out .entry)))) (λ e. (refusalOf e ≡ refusal 5 (bytesNeeded size)) × (length (now (out .entry)) < size) × (now (out .exit) ≡ now (out .entry))) ⌝ };
+}
+
+pub impl Digest for [u8; 32] as Bytes32Digest {
+    ghost image = { λ d. d };
+
+    ghost size = { 32 };
+
+    ghost valid = { λ d. length d ≡ 32 };
+
+    fn size() -> usize {
+        32
+    }
+
+    fn read(bytes: &[u8]) -> Option<[u8; 32]> {
+        if bytes.len() < 32 {
+            return None;
+        }
+        let mut digest = [0u8; 32];
+        digest.copy_from_slice(&bytes[0..32]);
+        Some(digest)
+    }
+
+    fn encode_size(&self) -> usize {
+        32
+    }
+
+    fn write(&self, out: &mut [u8]) -> Result<usize, WriteError> {
+        let needed = 32;
+        if out.len() < needed {
+            return Err(WriteError::OutputTooShort { needed });
+        }
+        out[0..32].copy_from_slice(self);
+        Ok(needed)
+    }
+}
+
+/// A number of 64 bits in eight bytes, the high byte first.
+pub impl Digest for u64 as U64Digest {
+    ghost image = { bigEndian };
+
+    ghost size = { 8 };
+
+    ghost valid = { λ n. n < 2 ^ 64 };
+
+    fn size() -> usize {
+        8
+    }
+
+    fn read(bytes: &[u8]) -> Option<u64> {
+        if bytes.len() < 8 {
+            return None;
+        }
+        let mut digest = [0u8; 8];
+        digest.copy_from_slice(&bytes[0..8]);
+        Some(u64::from_be_bytes(digest))
+    }
+
+    fn encode_size(&self) -> usize {
+        self.to_be_bytes().len()
+    }
+
+    fn write(&self, out: &mut [u8]) -> Result<usize, WriteError> {
+        let needed = 8;
+        if out.len() < needed {
+            return Err(WriteError::OutputTooShort { needed });
+        }
+        let digest = self.to_be_bytes();
+        out[0..8].copy_from_slice(&digest);
+        Ok(needed)
+    }
+}
