@@ -48,7 +48,7 @@ pub trait Digest: TotalOrder + Copy {
 
     /// Writes the digest at the front of `out`, and answers how many bytes that took.
     fn write(&self, out: &mut [u8]) -> Result<usize, WriteError>
-        ensures { λ r. ⌜ Cases r (λ k. (k ≡ size) × (now (out .exit) ≡ image (now (self .entry)) ++ drop size (now (out .entry)))) (λ e. (refusalOf e ≡ refusal 5 (bytesNeeded size)) × (length (now (out .entry)) < size) × (now (out .exit) ≡ now (out .entry))) ⌝ };
+        ensures { λ r. ⌜ Cases r (λ k. (k ≡ length (image (now (self .entry)))) × (k ≤ length (now (out .entry))) × (now (out .exit) ≡ image (now (self .entry)) ++ drop k (now (out .entry)))) (λ e. (refusalOf e ≡ refusal 5 (bytesNeeded (length (image (now (self .entry)))))) × (length (now (out .entry)) < length (image (now (self .entry)))) × (now (out .exit) ≡ now (out .entry))) ⌝ };
 }
 
 pub impl Digest for [u8; 32] as Bytes32Digest {

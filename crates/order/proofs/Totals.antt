@@ -1,9 +1,11 @@
--- Total orders: their parts, how one is made of them, and those of pairs and of values told apart by another. Assumes nothing.
+-- Total orders: their parts, how one is made of them, and those of pairs, of values told apart by another and of tagged values. Assumes nothing.
 use mathlib.Core.Path.{_≡_, refl, sym, ap, subst, _∙_}
-use mathlib.Core.Bool.{Bool, true, false, not, _&&_, _||_}
+use mathlib.Core.Bool.{Bool, true, false, not, cond, _&&_, _||_}
 use mathlib.Core.Logic.{_⊎_, inl, inr}
+use Prim.Native.Nat.{ℕ, _<_}
 use native.Mathlib.Omega.{arith}
-use Rattle.std.proofs.shelf.Tests.{cases-bool, false≢true, true≢false, both-ways, or-cases, or-left, or-right, or-from, and-from, and-parts, and-left, and-right, not-true, not-from-true, not-from-false}
+use lib.Dec.{eqb, ltb}
+use Rattle.std.proofs.shelf.Tests.{cases-bool, cases-eq, cases-order, eq-eqb, ne-eqb, ltb-true, lt-ltb, le-ltb, both-ways, or-cases, or-left, or-right, and-from, and-parts, not-true, not-from-false}
 use Rattle.order.specs.Orders.{Total, ExactlyOne, pairLess}
 
 module _ {X : Type 0} {less : X → X → Bool} (t : Total less) where
@@ -123,3 +125,56 @@ module _ {X Y : Type 0} (by : X → Y) (one : (a b : X) → by a ≡ by b → a 
   total-by =
       total-from (λ (a b : X). f (by a) (by b)) (λ a b. asymmetric t (by a) (by b)) (λ a b h k. one a b (connected t (by a) (by b) h k))
       (λ a b c. t .transitive (by a) (by b) (by c))
+
+-- values in the order of a number, their tag, and those of one tag in an order of their own
+module _ {X : Type 0} (tag : X → ℕ) (content : X → X → Bool) (asym : (a b : X) → content a b ≡ true → content b a ≡ false)
+    (conn : (a b : X) → tag a ≡ tag b → content a b ≡ false → content b a ≡ false → a ≡ b)
+    (trans : (a b c : X) → content a b ≡ true → content b c ≡ true → content a c ≡ true) where
+  less : X → X → Bool
+  less a b = cond (eqb (tag a) (tag b)) (content a b) (ltb (tag a) (tag b))
+
+  at-same : (a b : X) → tag a ≡ tag b → less a b ≡ content a b
+  unfolding less
+  at-same a b e = let t : eqb (tag a) (tag b) ≡ true = eq-eqb (tag a) (tag b) e in rw t refl
+
+  at-apart : (a b : X) → (tag a ≡ tag b → ⊥) → less a b ≡ ltb (tag a) (tag b)
+  unfolding less
+  at-apart a b n = let t : eqb (tag a) (tag b) ≡ false = ne-eqb (tag a) (tag b) n in rw t refl
+
+  up : (a b : X) → less a b ≡ true → (tag a < tag b) ⊎ ((tag a ≡ tag b) × (content a b ≡ true))
+  up a b h =
+      elim (cases-eq (tag a) (tag b)) [
+        | inl e ↦ inr (e, sym (at-same a b e) ∙ h)
+        | inr n ↦ inl (ltb-true (tag a) (tag b) (sym (at-apart a b n) ∙ h))
+      ]
+
+  by-tag : (a b : X) → tag a < tag b → less a b ≡ true
+  by-tag a b l = at-apart a b (λ e. omega arith) ∙ lt-ltb (tag a) (tag b) l
+
+  tagged-asym : (a b : X) → less a b ≡ true → less b a ≡ false
+  tagged-asym a b h =
+      elim (up a b h) [
+        | inl l ↦ at-apart b a (λ e. omega arith) ∙ le-ltb (tag b) (tag a) (omega arith)
+        | inr p ↦ at-same b a (sym (p .0)) ∙ asym a b (p .1)
+      ]
+
+  tagged-conn : (a b : X) → less a b ≡ false → less b a ≡ false → a ≡ b
+  tagged-conn a b h k =
+      elim (cases-order (tag a) (tag b)) [
+        | inl e ↦ conn a b e (sym (at-same a b e) ∙ h) (sym (at-same b a (sym e)) ∙ k)
+        | inr d ↦ elim d [ inl l ↦ absurd (both-ways (less a b) h (by-tag a b l)) | inr l ↦ absurd (both-ways (less b a) k (by-tag b a l)) ]
+      ]
+
+  tagged-trans : (a b c : X) → less a b ≡ true → less b c ≡ true → less a c ≡ true
+  tagged-trans a b c h k =
+      elim (up a b h) [
+        | inl l ↦ elim (up b c k) [ inl m ↦ by-tag a c (omega arith) | inr q ↦ by-tag a c (omega (arith, q .0)) ]
+        | inr p ↦ elim (up b c k) [
+          | inl m ↦ by-tag a c (omega (arith, p .0))
+          | inr q ↦ at-same a c (p .0 ∙ q .0) ∙ trans a b c (p .1) (q .1)
+        ]
+      ]
+
+  pub tagged-total : Total (λ (a b : X). cond (eqb (tag a) (tag b)) (content a b) (ltb (tag a) (tag b)))
+  unfolding less
+  tagged-total = total-from less tagged-asym tagged-conn tagged-trans

@@ -17,4 +17,4 @@ returns-then-out-needed c =
 pub returns : need.returns
 returns c =
     let e = c .encode-size-needed .ensures .value in
-    record { writes = (e, rw e (c .put .ensures)); one = one-encoding (c .args .n) }
+    record { writes = (e, c .if-out-needed .left, rw e (c .put .ensures)); one = one-encoding (c .args .n) }

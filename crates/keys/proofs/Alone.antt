@@ -1,0 +1,123 @@
+-- The bytes of a key are those of no other, and meet no refusal; bytes meet one refusal at most. Assumes nothing.
+use mathlib.Core.Path.{_≡_, refl, sym, ap, subst, _∙_}
+use mathlib.Core.List.{List, [], _∷_, _++_}
+use Prim.Native.Nat.{ℕ, _+_, _<_, _≤_}
+use native.Mathlib.Omega.{arith}
+use lib.ListN.{length, getD, take, drop}
+use Rattle.std.proofs.shelf.Lists.{take-at, drop-at, length-append, append-assoc}
+use Rattle.refusals.specs.declared.Refusal.{Refusal}
+use Rattle.refusals.specs.Refusals.{refusal}
+use Rattle.leb128.specs.Unsigned.{encode}
+use Rattle.leb128.specs.Refusals.{Refuses as NumberRefuses}
+use Rattle.leb128.proofs.Refused.{none-begins, one-number, one-refusal as one-number-refusal}
+use Rattle.types.specs.declared.Height.{Height}
+use Rattle.types.specs.declared.Round.{Round}
+use Rattle.keys.specs.declared.key.Key.{Key}
+use Rattle.keys.specs.declared.key.Key.the-variants.{Block, Finalized, Notarized}
+use Rattle.keys.specs.declared.error.Layer.the-variants as layer
+use Rattle.keys.specs.declared.error.Field.{Field}
+use Rattle.keys.specs.declared.error.Field.the-variants.{Tag, Digest, Height as HeightField, Epoch, View}
+use Rattle.keys.specs.declared.error.Location.{Location}
+use Rattle.keys.specs.declared.error.Location.the-variants.{InField, AtTag}
+use Rattle.keys.specs.Keys.{keyBytes, ValidKey, Alone}
+use Rattle.keys.specs.Refusals.{Begins, Refuses, no-tag, unknown-tag, short-digest, in-number}
+
+-- lists of one length in front of others
+fronts : (n : ℕ) (x y r s : List ℕ) → length x ≡ n → length y ≡ n → x ++ r ≡ y ++ s → (x ≡ y) × (r ≡ s)
+fronts n x y r s h k e = (sym (take-at x r n h) ∙ ap (take n) e ∙ take-at y s n k, sym (drop-at x r n h) ∙ ap (drop n) e ∙ drop-at y s n k)
+
+first : {a b : ℕ} {x y : List ℕ} → a ∷ x ≡ b ∷ y → a ≡ b
+first e = cc
+
+after : {a b : ℕ} {x y : List ℕ} → a ∷ x ≡ b ∷ y → x ≡ y
+after e = cc
+
+-- the first byte of bytes that a key's bytes begin
+tag-at : (t : ℕ) (bs x : List ℕ) → bs ≡ t ∷ x → getD bs 0 0 ≡ t
+tag-at t bs x e = ap (λ (y : List ℕ). getD y 0 0) e
+
+heightOf : ℕ → Height
+heightOf n = record { 0 = n }
+
+roundOf : ℕ → ℕ → Round
+roundOf e v = record { epoch = record { 0 = e }; view = record { 0 = v } }
+
+same-height : (g h : Height) → g .0 ≡ h .0 → g ≡ h
+unfolding heightOf
+same-height g h e = ap heightOf e
+
+same-round : (p q : Round) → p .epoch .0 ≡ q .epoch .0 → p .view .0 ≡ q .view .0 → p ≡ q
+unfolding roundOf
+same-round p q a b = ap (λ (x : ℕ). roundOf x (p .view .0)) a ∙ ap (λ (y : ℕ). roundOf (q .epoch .0) y) b
+
+-- two numbers in front of others
+two-numbers : (a b c d : ℕ) (r s : List ℕ) → (encode a ++ encode b) ++ r ≡ (encode c ++ encode d) ++ s → (a ≡ c) × (b ≡ d) × (r ≡ s)
+two-numbers a b c d r s e =
+    let f = one-number a c (encode b ++ r) (encode d ++ s) (sym (append-assoc (encode a) (encode b) r) ∙ e ∙ append-assoc (encode c) (encode d) s) in
+    let g = one-number b d r s (f .1) in
+    (f .0, g .0, g .1)
+
+module _ {D : Type 0} (image : D → List ℕ) (size : ℕ) (valid : D → Type 0) (long : (d : D) → valid d → length (image d) ≡ size)
+    (one : (a b : D) → valid a → valid b → image a ≡ image b → a ≡ b) where
+  pub alone : (k : Key D) → ValidKey valid k → Alone image valid k
+  alone (Block a) v (Block b) r s w e =
+      let f = fronts size (image a) (image b) r s (long a v) (long b w) (after e) in
+      (ap Block (one a b v w (f .0)), f .1)
+  alone (Block a) v (Finalized h) r s w e = absurd (omega (arith, first e))
+  alone (Block a) v (Notarized q) r s w e = absurd (omega (arith, first e))
+  alone (Finalized g) v (Block b) r s w e = absurd (omega (arith, first e))
+  alone (Finalized g) v (Finalized h) r s w e =
+      let f = one-number (g .0) (h .0) r s (after e) in
+      (ap Finalized (same-height g h (f .0)), f .1)
+  alone (Finalized g) v (Notarized q) r s w e = absurd (omega (arith, first e))
+  alone (Notarized p) v (Block b) r s w e = absurd (omega (arith, first e))
+  alone (Notarized p) v (Finalized h) r s w e = absurd (omega (arith, first e))
+  alone (Notarized p) v (Notarized q) r s w e =
+      let f = two-numbers (p .epoch .0) (p .view .0) (q .epoch .0) (q .view .0) r s (after e) in
+      (ap Notarized (same-round p q (f .0) (f .1)), f .2)
+
+  -- the number of a field stands where the key has it
+  no-number : (bs : List ℕ) (f : Field) (s m q : ℕ) → Begins bs f s → NumberRefuses (drop s bs) (refusal m q) → (k : Key D) (rest : List ℕ) → ValidKey valid k
+      → bs ≡ keyBytes image k ++ rest → ⊥
+  no-number bs Tag s m q b h k rest w e = b
+  no-number bs Digest s m q b h k rest w e = b
+  no-number bs HeightField s m q b h (Block d) rest w e = omega (arith, b .1, tag-at 0 bs _ e)
+  no-number bs HeightField s m q b h (Finalized g) rest w e = none-begins (drop s bs) (refusal m q) h (g .0) rest w (ap (λ (j : ℕ). drop j bs) (b .2) ∙ ap (drop 1) e)
+  no-number bs HeightField s m q b h (Notarized r) rest w e = omega (arith, b .1, tag-at 2 bs _ e)
+  no-number bs Epoch s m q b h (Block d) rest w e = omega (arith, b .1, tag-at 0 bs _ e)
+  no-number bs Epoch s m q b h (Finalized g) rest w e = omega (arith, b .1, tag-at 1 bs _ e)
+  no-number bs Epoch s m q b h (Notarized r) rest w e =
+      none-begins (drop s bs) (refusal m q) h (r .epoch .0) (encode (r .view .0) ++ rest) (w .0)
+      (ap (λ (j : ℕ). drop j bs) (b .2) ∙ ap (drop 1) e ∙ append-assoc (encode (r .epoch .0)) (encode (r .view .0)) rest)
+  no-number bs View s m q b h (Block d) rest w e = omega (arith, tag-at 0 bs _ e, tag-at 2 bs _ (b .2))
+  no-number bs View s m q b h (Finalized g) rest w e = omega (arith, tag-at 1 bs _ e, tag-at 2 bs _ (b .2))
+  no-number bs View s m q b h (Notarized r) rest w e =
+      let n : ℕ = b .0 in
+      let x : List ℕ = b .1 in
+      let t : encode n ++ x ≡ encode (r .epoch .0) ++ (encode (r .view .0) ++ rest) = after (sym (b .2) ∙ e) ∙ append-assoc (encode (r .epoch .0)) (encode (r .view .0)) rest in
+      let g = one-number n (r .epoch .0) x (encode (r .view .0) ++ rest) t in
+      none-begins (drop s bs) (refusal m q) h (r .view .0) rest (w .1) (view-at bs s b ∙ g .1)
+    where
+      view-at : (cs : List ℕ) (j : ℕ) (c : Begins cs View j) → drop j cs ≡ c .1
+      view-at cs j c =
+          ap (λ (i : ℕ). drop i cs) (c .3) ∙ ap (drop (1 + length (encode (c .0)))) (c .2)
+          ∙ drop-at (2 ∷ encode (c .0)) (c .1) (1 + length (encode (c .0))) (omega arith)
+
+  -- bytes that a key's bytes begin meet no refusal
+  pub not-refused : (bs : List ℕ) (f : Refusal Location) → Refuses size bs f → (k : Key D) (rest : List ℕ) → ValidKey valid k → bs ≡ keyBytes image k ++ rest → ⊥
+  not-refused bs f (no-tag l) k rest w e = omega (arith, ap length e)
+  not-refused bs f (unknown-tag t l h m) (Block d) rest w e = omega (arith, tag-at 0 bs _ e)
+  not-refused bs f (unknown-tag t l h m) (Finalized g) rest w e = omega (arith, tag-at 1 bs _ e)
+  not-refused bs f (unknown-tag t l h m) (Notarized r) rest w e = omega (arith, tag-at 2 bs _ e)
+  not-refused bs f (short-digest p l h m q) (Block d) rest w e = omega (arith, ap length e, length-append (image d) rest, long d w)
+  not-refused bs f (short-digest p l h m q) (Finalized g) rest w e = omega (arith, tag-at 1 bs _ e)
+  not-refused bs f (short-digest p l h m q) (Notarized r) rest w e = omega (arith, tag-at 2 bs _ e)
+  not-refused bs f (in-number g s m q p b h t) k rest w e = no-number bs g s m q b h k rest w e
+
+-- which field's number, and where it begins
+record Same (f g : Field) (s t : ℕ) : Type 0 where
+  field : f ≡ g
+  start : s ≡ t
+
+tag-of-view : (bs : List ℕ) (s : ℕ) → Begins bs View s → getD bs 0 0 ≡ 2
+tag-of-view bs s b = tag-at 2 bs _ (b .2)

@@ -1,0 +1,2 @@
+mod error;
+mod key;
