@@ -114,10 +114,69 @@ module _ {D : Type 0} (image : D → List ℕ) (size : ℕ) (valid : D → Type 
   not-refused bs f (short-digest p l h m q) (Notarized r) rest w e = omega (arith, tag-at 2 bs _ e)
   not-refused bs f (in-number g s m q p b h t) k rest w e = no-number bs g s m q b h k rest w e
 
--- which field's number, and where it begins
-record Same (f g : Field) (s t : ℕ) : Type 0 where
-  field : f ≡ g
-  start : s ≡ t
+-- a field whose number begins somewhere has the tag 1 or 2
+tag-of-field : (bs : List ℕ) (f : Field) (s : ℕ) → Begins bs f s → (0 < length bs) × (0 < getD bs 0 0) × (getD bs 0 0 < 3)
+tag-of-field bs Tag s b = absurd b
+tag-of-field bs Digest s b = absurd b
+tag-of-field bs HeightField s b = (b .0, omega arith, omega arith)
+tag-of-field bs Epoch s b = (b .0, omega arith, omega arith)
+tag-of-field bs View s b = let t = tag-at 2 bs _ (b .2) in (omega (arith, ap length (b .2)), omega arith, omega arith)
 
-tag-of-view : (bs : List ℕ) (s : ℕ) → Begins bs View s → getD bs 0 0 ≡ 2
-tag-of-view bs s b = tag-at 2 bs _ (b .2)
+-- an epoch that is refused has no view behind it
+no-view : (bs : List ℕ) (s t : ℕ) (r : Refusal ℕ) → Begins bs Epoch s → Begins bs View t → NumberRefuses (drop s bs) r → ⊥
+no-view bs s t r b c h = none-begins (drop s bs) r h (c .0) (c .1) (c .4) (ap (λ (j : ℕ). drop j bs) (b .2) ∙ ap (drop 1) (c .2))
+
+-- bytes meet a refusal in one field's number at most
+one-field : (bs : List ℕ) (f g : Field) (s t : ℕ) (q r : Refusal ℕ) → Begins bs f s → Begins bs g t → NumberRefuses (drop s bs) q → NumberRefuses (drop t bs) r
+    → (f ≡ g) × (s ≡ t)
+one-field bs Tag g s t q r b c h k = absurd b
+one-field bs Digest g s t q r b c h k = absurd b
+one-field bs HeightField Tag s t q r b c h k = absurd c
+one-field bs HeightField Digest s t q r b c h k = absurd c
+one-field bs HeightField HeightField s t q r b c h k = (refl, b .2 ∙ sym (c .2))
+one-field bs HeightField Epoch s t q r b c h k = absurd (omega (arith, b .1, c .1))
+one-field bs HeightField View s t q r b c h k = absurd (omega (arith, b .1, tag-at 2 bs _ (c .2)))
+one-field bs Epoch Tag s t q r b c h k = absurd c
+one-field bs Epoch Digest s t q r b c h k = absurd c
+one-field bs Epoch HeightField s t q r b c h k = absurd (omega (arith, b .1, c .1))
+one-field bs Epoch Epoch s t q r b c h k = (refl, b .2 ∙ sym (c .2))
+one-field bs Epoch View s t q r b c h k = absurd (no-view bs s t q b c h)
+one-field bs View Tag s t q r b c h k = absurd c
+one-field bs View Digest s t q r b c h k = absurd c
+one-field bs View HeightField s t q r b c h k = absurd (omega (arith, c .1, tag-at 2 bs _ (b .2)))
+one-field bs View Epoch s t q r b c h k = absurd (no-view bs t s r c b k)
+one-field bs View View s t q r b c h k =
+    let e = one-number (b .0) (c .0) (b .1) (c .1) (after (sym (b .2) ∙ c .2)) in
+    (refl, b .3 ∙ ap (λ (n : ℕ). 1 + length (encode n)) (e .0) ∙ sym (c .3))
+
+-- the refusal of a number at the place s of a key
+placed : Field → ℕ → Refusal ℕ → Refusal Location
+placed f s r = refusal (r .number) (InField layer.Number f (s + r .values))
+
+one-placed : (bs : List ℕ) (f g : Field) (s t m n i j p o : ℕ) → Begins bs f s → Begins bs g t → NumberRefuses (drop s bs) (refusal m i) → NumberRefuses (drop t bs) (refusal n j)
+    → p ≡ s + i → o ≡ t + j → refusal m (InField layer.Number f p) ≡ refusal n (InField layer.Number g o)
+unfolding placed
+one-placed bs f g s t m n i j p o b c h k u v =
+    let e = one-field bs f g s t (refusal m i) (refusal n j) b c h k in
+    let r : refusal m i ≡ refusal n j = one-number-refusal (drop s bs) (refusal m i) (refusal n j) h (subst (λ (x : ℕ). NumberRefuses (drop x bs) (refusal n j)) (sym (e .1)) k) in
+    ap (λ (x : ℕ). refusal m (InField layer.Number f x)) u ∙ ap (placed f s) r ∙ ap (λ (x : ℕ). placed f x (refusal n j)) (e .1)
+    ∙ ap (λ (x : Field). placed x t (refusal n j)) (e .0) ∙ ap (λ (x : ℕ). refusal n (InField layer.Number g x)) (sym v)
+
+-- bytes meet one refusal at most
+pub one-refusal : (size : ℕ) (bs : List ℕ) (q r : Refusal Location) → Refuses size bs q → Refuses size bs r → q ≡ r
+one-refusal size bs q r (no-tag l) (no-tag m) = refl
+one-refusal size bs q r (no-tag l) (unknown-tag t m h n) = absurd (omega arith)
+one-refusal size bs q r (no-tag l) (short-digest p m h n e) = absurd (omega arith)
+one-refusal size bs q r (no-tag l) (in-number g t n j o c k v) = absurd (omega (arith, tag-of-field bs g t c .0))
+one-refusal size bs q r (unknown-tag t l h m) (no-tag n) = absurd (omega arith)
+one-refusal size bs q r (unknown-tag t l h m) (unknown-tag u n i j) = ap (λ (x : ℕ). refusal 4 (AtTag layer.Key x 0)) (h ∙ sym i)
+one-refusal size bs q r (unknown-tag t l h m) (short-digest p n i j e) = absurd (omega arith)
+one-refusal size bs q r (unknown-tag t l h m) (in-number g u n j o c k v) = absurd (omega (arith, tag-of-field bs g u c .2))
+one-refusal size bs q r (short-digest p l h m e) (no-tag n) = absurd (omega arith)
+one-refusal size bs q r (short-digest p l h m e) (unknown-tag t n i j) = absurd (omega arith)
+one-refusal size bs q r (short-digest p l h m e) (short-digest o n i j f) = ap (λ (x : ℕ). refusal 1 (InField layer.Key Digest x)) (e ∙ sym f)
+one-refusal size bs q r (short-digest p l h m e) (in-number g t n j o c k v) = absurd (omega (arith, tag-of-field bs g t c .1))
+one-refusal size bs q r (in-number f s m i p b h u) (no-tag n) = absurd (omega (arith, tag-of-field bs f s b .0))
+one-refusal size bs q r (in-number f s m i p b h u) (unknown-tag t n j k) = absurd (omega (arith, tag-of-field bs f s b .2))
+one-refusal size bs q r (in-number f s m i p b h u) (short-digest o n j k e) = absurd (omega (arith, tag-of-field bs f s b .1))
+one-refusal size bs q r (in-number f s m i p b h u) (in-number g t n j o c k v) = one-placed bs f g s t m n i j p o b c h k u v

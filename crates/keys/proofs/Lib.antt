@@ -1,3 +1,5 @@
 pub mod Ordered
 pub mod Writing
 pub mod Alone
+pub mod Walking
+pub mod Shown

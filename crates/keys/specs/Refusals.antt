@@ -1,7 +1,7 @@
 -- The refusals of reading a key, by their numbers and what they hand back, and which bytes meet which. Assumes nothing.
 use mathlib.Core.Path.{_≡_}
 use mathlib.Core.List.{List, _∷_, _++_}
-use Prim.Native.Nat.{ℕ, _+_, _<_}
+use Prim.Native.Nat.{ℕ, _+_, _^_, _<_}
 use lib.ListN.{length, getD, drop}
 use Rattle.refusals.specs.declared.Refusal.{Refusal}
 use Rattle.refusals.specs.Refusals.{refusal}
@@ -27,7 +27,7 @@ Begins bs Tag s = ⊥
 Begins bs Digest s = ⊥
 Begins bs Height s = (0 < length bs) × (getD bs 0 0 ≡ 1) × (s ≡ 1)
 Begins bs Epoch s = (0 < length bs) × (getD bs 0 0 ≡ 2) × (s ≡ 1)
-Begins bs View s = (e : ℕ) × (rest : List ℕ) × (bs ≡ 2 ∷ (encode e ++ rest)) × (s ≡ 1 + length (encode e))
+Begins bs View s = (e : ℕ) × (rest : List ℕ) × (bs ≡ 2 ∷ (encode e ++ rest)) × (s ≡ 1 + length (encode e)) × (e < 2 ^ 64)
 
 -- which refusal the bytes bs meet, where a digest has size bytes
 pub data Refuses (size : ℕ) (bs : List ℕ) : Refusal Location → Type 0 where

@@ -1,2 +1,4 @@
+mod cursor;
 mod error;
 mod key;
+mod key_ref;

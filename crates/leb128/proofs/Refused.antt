@@ -106,3 +106,9 @@ one-refusal bs r s (padded p z t l g b) (padded q y u m h c) =
       | inl i ↦ ap (refusal 3) i
       | inr d ↦ elim d [ inl i ↦ absurd (omega (arith, h p i)) | inr i ↦ absurd (omega (arith, g q i)) ]
     ]
+
+-- a number is refused within its first ten bytes
+pub refused-early : (bs : List ℕ) (r : Refusal ℕ) → Refuses bs r → r .values < 10
+refused-early bs r (ends p e t g) = t
+refused-early bs r (tenth p e l g b) = omega arith
+refused-early bs r (padded p z t l g b) = t

@@ -49,7 +49,7 @@ impl NumberError {
 
 /// The number at the front of `bytes`, and the rest of them.
 pub fn read(bytes: &[u8]) -> Result<(u64, &[u8]), NumberError>
-    ensures reads { λ r. ⌜ Cases r (λ p. (now (bytes .entry) ≡ encode (p .0) ++ now (p .1)) × (now (p .1) ≡ drop (length (encode (p .0))) (now (bytes .entry)))) (λ e. Refuses (now (bytes .entry)) (refusalOf e)) ⌝ }
+    ensures reads { λ r. ⌜ Cases r (λ p. (p .0 < 2 ^ 64) × (now (bytes .entry) ≡ encode (p .0) ++ now (p .1)) × (now (p .1) ≡ drop (length (encode (p .0))) (now (bytes .entry)))) (λ e. Refuses (now (bytes .entry)) (refusalOf e)) ⌝ }
     ensures accepts { λ r. ⌜ ((n : ℕ) (code rest : List ℕ) → n < 2 ^ 64 → Accepted code n → now (bytes .entry) ≡ code ++ rest → Cases r (λ p. (p .0 ≡ n) × (now (p .1) ≡ rest)) (λ _. ⊥)) ⌝ }
     ensures refuses { λ r. ⌜ ((m p : ℕ) → Refuses (now (bytes .entry)) (refusal m p) → Cases r (λ _. ⊥) (λ e. refusalOf e ≡ refusal m p)) ⌝ }
 {
