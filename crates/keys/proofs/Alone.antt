@@ -1,7 +1,7 @@
 -- The bytes of a key are those of no other, and meet no refusal; bytes meet one refusal at most. Assumes nothing.
 use mathlib.Core.Path.{_≡_, refl, sym, ap, subst, _∙_}
 use mathlib.Core.List.{List, [], _∷_, _++_}
-use Prim.Native.Nat.{ℕ, _+_, _<_, _≤_}
+use Prim.Native.Nat.{ℕ, _+_, _^_, _<_, _≤_}
 use native.Mathlib.Omega.{arith}
 use lib.ListN.{length, getD, take, drop}
 use Rattle.std.proofs.shelf.Lists.{take-at, drop-at, length-append, append-assoc}
@@ -23,13 +23,13 @@ use Rattle.keys.specs.Keys.{keyBytes, ValidKey, Alone}
 use Rattle.keys.specs.Refusals.{Begins, Refuses, no-tag, unknown-tag, short-digest, in-number}
 
 -- lists of one length in front of others
-fronts : (n : ℕ) (x y r s : List ℕ) → length x ≡ n → length y ≡ n → x ++ r ≡ y ++ s → (x ≡ y) × (r ≡ s)
+pub fronts : (n : ℕ) (x y r s : List ℕ) → length x ≡ n → length y ≡ n → x ++ r ≡ y ++ s → (x ≡ y) × (r ≡ s)
 fronts n x y r s h k e = (sym (take-at x r n h) ∙ ap (take n) e ∙ take-at y s n k, sym (drop-at x r n h) ∙ ap (drop n) e ∙ drop-at y s n k)
 
-first : {a b : ℕ} {x y : List ℕ} → a ∷ x ≡ b ∷ y → a ≡ b
+pub first : {a b : ℕ} {x y : List ℕ} → a ∷ x ≡ b ∷ y → a ≡ b
 first e = cc
 
-after : {a b : ℕ} {x y : List ℕ} → a ∷ x ≡ b ∷ y → x ≡ y
+pub after : {a b : ℕ} {x y : List ℕ} → a ∷ x ≡ b ∷ y → x ≡ y
 after e = cc
 
 -- the first byte of bytes that a key's bytes begin
@@ -42,20 +42,74 @@ heightOf n = record { 0 = n }
 roundOf : ℕ → ℕ → Round
 roundOf e v = record { epoch = record { 0 = e }; view = record { 0 = v } }
 
-same-height : (g h : Height) → g .0 ≡ h .0 → g ≡ h
+pub same-height : (g h : Height) → g .0 ≡ h .0 → g ≡ h
 unfolding heightOf
 same-height g h e = ap heightOf e
 
-same-round : (p q : Round) → p .epoch .0 ≡ q .epoch .0 → p .view .0 ≡ q .view .0 → p ≡ q
+pub same-round : (p q : Round) → p .epoch .0 ≡ q .epoch .0 → p .view .0 ≡ q .view .0 → p ≡ q
 unfolding roundOf
 same-round p q a b = ap (λ (x : ℕ). roundOf x (p .view .0)) a ∙ ap (λ (y : ℕ). roundOf (q .epoch .0) y) b
 
 -- two numbers in front of others
-two-numbers : (a b c d : ℕ) (r s : List ℕ) → (encode a ++ encode b) ++ r ≡ (encode c ++ encode d) ++ s → (a ≡ c) × (b ≡ d) × (r ≡ s)
+pub two-numbers : (a b c d : ℕ) (r s : List ℕ) → (encode a ++ encode b) ++ r ≡ (encode c ++ encode d) ++ s → (a ≡ c) × (b ≡ d) × (r ≡ s)
 two-numbers a b c d r s e =
     let f = one-number a c (encode b ++ r) (encode d ++ s) (sym (append-assoc (encode a) (encode b) r) ∙ e ∙ append-assoc (encode c) (encode d) s) in
     let g = one-number b d r s (f .1) in
     (f .0, g .0, g .1)
+
+-- a field whose number begins somewhere has the tag 1 or 2
+tag-of-field : (bs : List ℕ) (f : Field) (s : ℕ) → Begins bs f s → (0 < length bs) × (0 < getD bs 0 0) × (getD bs 0 0 < 3)
+tag-of-field bs Tag s b = absurd b
+tag-of-field bs Digest s b = absurd b
+tag-of-field bs HeightField s b = (b .0, omega arith, omega arith)
+tag-of-field bs Epoch s b = (b .0, omega arith, omega arith)
+tag-of-field bs View s b = let t = tag-at 2 bs _ (b .2) in (omega (arith, ap length (b .2)), omega arith, omega arith)
+
+-- where the view behind an epoch begins
+view-at : (bs : List ℕ) (s : ℕ) (b : Begins bs View s) → drop s bs ≡ b .1
+view-at bs s b =
+    ap (λ (i : ℕ). drop i bs) (b .3) ∙ ap (drop (1 + length (encode (b .0)))) (b .2) ∙ drop-at (2 ∷ encode (b .0)) (b .1) (1 + length (encode (b .0))) (omega arith)
+
+-- bytes that begin with the tag 0 and a whole digest meet no refusal
+module _ (size : ℕ) (bs x rest : List ℕ) (e : bs ≡ 0 ∷ (x ++ rest)) (l : length x ≡ size) where
+  pub block-stands : (f : Refusal Location) → Refuses size bs f → ⊥
+  block-stands f (no-tag h) = omega (arith, ap length e)
+  block-stands f (unknown-tag t h g m) = omega (arith, tag-at 0 bs _ e)
+  block-stands f (short-digest p h g m q) = omega (arith, ap length e, length-append x rest)
+  block-stands f (in-number g s m q p b h t) = omega (arith, tag-at 0 bs _ e, tag-of-field bs g s b .1)
+
+-- nor do bytes that begin with the tag 1 and a number
+module _ (size : ℕ) (bs : List ℕ) (n : ℕ) (rest : List ℕ) (e : bs ≡ 1 ∷ (encode n ++ rest)) (w : n < 2 ^ 64) where
+  height-stands-in : (g : Field) (s : ℕ) (r : Refusal ℕ) → Begins bs g s → NumberRefuses (drop s bs) r → ⊥
+  height-stands-in Tag s r b h = b
+  height-stands-in Digest s r b h = b
+  height-stands-in HeightField s r b h = none-begins (drop s bs) r h n rest w (ap (λ (j : ℕ). drop j bs) (b .2) ∙ ap (drop 1) e)
+  height-stands-in Epoch s r b h = omega (arith, b .1, tag-at 1 bs _ e)
+  height-stands-in View s r b h = omega (arith, tag-at 1 bs _ e, tag-at 2 bs _ (b .2))
+
+  pub height-stands : (f : Refusal Location) → Refuses size bs f → ⊥
+  height-stands f (no-tag h) = omega (arith, ap length e)
+  height-stands f (unknown-tag t h g m) = omega (arith, tag-at 1 bs _ e)
+  height-stands f (short-digest p h g m q) = omega (arith, tag-at 1 bs _ e)
+  height-stands f (in-number g s m q p b h t) = height-stands-in g s (refusal m q) b h
+
+-- nor do bytes that begin with the tag 2 and two numbers
+module _ (size : ℕ) (bs : List ℕ) (n v : ℕ) (rest : List ℕ) (e : bs ≡ 2 ∷ ((encode n ++ encode v) ++ rest)) (w : (n < 2 ^ 64) × (v < 2 ^ 64)) where
+  round-stands-in : (g : Field) (s : ℕ) (r : Refusal ℕ) → Begins bs g s → NumberRefuses (drop s bs) r → ⊥
+  round-stands-in Tag s r b h = b
+  round-stands-in Digest s r b h = b
+  round-stands-in HeightField s r b h = omega (arith, b .1, tag-at 2 bs _ e)
+  round-stands-in Epoch s r b h =
+      none-begins (drop s bs) r h n (encode v ++ rest) (w .0) (ap (λ (j : ℕ). drop j bs) (b .2) ∙ ap (drop 1) e ∙ append-assoc (encode n) (encode v) rest)
+  round-stands-in View s r b h =
+      let t : encode (b .0) ++ b .1 ≡ encode n ++ (encode v ++ rest) = after (sym (b .2) ∙ e) ∙ append-assoc (encode n) (encode v) rest in
+      none-begins (drop s bs) r h v rest (w .1) (view-at bs s b ∙ one-number (b .0) n (b .1) (encode v ++ rest) t .1)
+
+  pub round-stands : (f : Refusal Location) → Refuses size bs f → ⊥
+  round-stands f (no-tag h) = omega (arith, ap length e)
+  round-stands f (unknown-tag t h g m) = omega (arith, tag-at 2 bs _ e)
+  round-stands f (short-digest p h g m q) = omega (arith, tag-at 2 bs _ e)
+  round-stands f (in-number g s m q p b h t) = round-stands-in g s (refusal m q) b h
 
 module _ {D : Type 0} (image : D → List ℕ) (size : ℕ) (valid : D → Type 0) (long : (d : D) → valid d → length (image d) ≡ size)
     (one : (a b : D) → valid a → valid b → image a ≡ image b → a ≡ b) where
@@ -76,51 +130,11 @@ module _ {D : Type 0} (image : D → List ℕ) (size : ℕ) (valid : D → Type 
       let f = two-numbers (p .epoch .0) (p .view .0) (q .epoch .0) (q .view .0) r s (after e) in
       (ap Notarized (same-round p q (f .0) (f .1)), f .2)
 
-  -- the number of a field stands where the key has it
-  no-number : (bs : List ℕ) (f : Field) (s m q : ℕ) → Begins bs f s → NumberRefuses (drop s bs) (refusal m q) → (k : Key D) (rest : List ℕ) → ValidKey valid k
-      → bs ≡ keyBytes image k ++ rest → ⊥
-  no-number bs Tag s m q b h k rest w e = b
-  no-number bs Digest s m q b h k rest w e = b
-  no-number bs HeightField s m q b h (Block d) rest w e = omega (arith, b .1, tag-at 0 bs _ e)
-  no-number bs HeightField s m q b h (Finalized g) rest w e = none-begins (drop s bs) (refusal m q) h (g .0) rest w (ap (λ (j : ℕ). drop j bs) (b .2) ∙ ap (drop 1) e)
-  no-number bs HeightField s m q b h (Notarized r) rest w e = omega (arith, b .1, tag-at 2 bs _ e)
-  no-number bs Epoch s m q b h (Block d) rest w e = omega (arith, b .1, tag-at 0 bs _ e)
-  no-number bs Epoch s m q b h (Finalized g) rest w e = omega (arith, b .1, tag-at 1 bs _ e)
-  no-number bs Epoch s m q b h (Notarized r) rest w e =
-      none-begins (drop s bs) (refusal m q) h (r .epoch .0) (encode (r .view .0) ++ rest) (w .0)
-      (ap (λ (j : ℕ). drop j bs) (b .2) ∙ ap (drop 1) e ∙ append-assoc (encode (r .epoch .0)) (encode (r .view .0)) rest)
-  no-number bs View s m q b h (Block d) rest w e = omega (arith, tag-at 0 bs _ e, tag-at 2 bs _ (b .2))
-  no-number bs View s m q b h (Finalized g) rest w e = omega (arith, tag-at 1 bs _ e, tag-at 2 bs _ (b .2))
-  no-number bs View s m q b h (Notarized r) rest w e =
-      let n : ℕ = b .0 in
-      let x : List ℕ = b .1 in
-      let t : encode n ++ x ≡ encode (r .epoch .0) ++ (encode (r .view .0) ++ rest) = after (sym (b .2) ∙ e) ∙ append-assoc (encode (r .epoch .0)) (encode (r .view .0)) rest in
-      let g = one-number n (r .epoch .0) x (encode (r .view .0) ++ rest) t in
-      none-begins (drop s bs) (refusal m q) h (r .view .0) rest (w .1) (view-at bs s b ∙ g .1)
-    where
-      view-at : (cs : List ℕ) (j : ℕ) (c : Begins cs View j) → drop j cs ≡ c .1
-      view-at cs j c =
-          ap (λ (i : ℕ). drop i cs) (c .3) ∙ ap (drop (1 + length (encode (c .0)))) (c .2)
-          ∙ drop-at (2 ∷ encode (c .0)) (c .1) (1 + length (encode (c .0))) (omega arith)
-
   -- bytes that a key's bytes begin meet no refusal
   pub not-refused : (bs : List ℕ) (f : Refusal Location) → Refuses size bs f → (k : Key D) (rest : List ℕ) → ValidKey valid k → bs ≡ keyBytes image k ++ rest → ⊥
-  not-refused bs f (no-tag l) k rest w e = omega (arith, ap length e)
-  not-refused bs f (unknown-tag t l h m) (Block d) rest w e = omega (arith, tag-at 0 bs _ e)
-  not-refused bs f (unknown-tag t l h m) (Finalized g) rest w e = omega (arith, tag-at 1 bs _ e)
-  not-refused bs f (unknown-tag t l h m) (Notarized r) rest w e = omega (arith, tag-at 2 bs _ e)
-  not-refused bs f (short-digest p l h m q) (Block d) rest w e = omega (arith, ap length e, length-append (image d) rest, long d w)
-  not-refused bs f (short-digest p l h m q) (Finalized g) rest w e = omega (arith, tag-at 1 bs _ e)
-  not-refused bs f (short-digest p l h m q) (Notarized r) rest w e = omega (arith, tag-at 2 bs _ e)
-  not-refused bs f (in-number g s m q p b h t) k rest w e = no-number bs g s m q b h k rest w e
-
--- a field whose number begins somewhere has the tag 1 or 2
-tag-of-field : (bs : List ℕ) (f : Field) (s : ℕ) → Begins bs f s → (0 < length bs) × (0 < getD bs 0 0) × (getD bs 0 0 < 3)
-tag-of-field bs Tag s b = absurd b
-tag-of-field bs Digest s b = absurd b
-tag-of-field bs HeightField s b = (b .0, omega arith, omega arith)
-tag-of-field bs Epoch s b = (b .0, omega arith, omega arith)
-tag-of-field bs View s b = let t = tag-at 2 bs _ (b .2) in (omega (arith, ap length (b .2)), omega arith, omega arith)
+  not-refused bs f r (Block d) rest w e = block-stands size bs (image d) rest e (long d w) f r
+  not-refused bs f r (Finalized h) rest w e = height-stands size bs (h .0) rest e w f r
+  not-refused bs f r (Notarized q) rest w e = round-stands size bs (q .epoch .0) (q .view .0) rest e w f r
 
 -- an epoch that is refused has no view behind it
 no-view : (bs : List ℕ) (s t : ℕ) (r : Refusal ℕ) → Begins bs Epoch s → Begins bs View t → NumberRefuses (drop s bs) r → ⊥

@@ -3,3 +3,4 @@ pub mod Writing
 pub mod Alone
 pub mod Walking
 pub mod Shown
+pub mod Copied

@@ -4,6 +4,7 @@ use mathlib.Core.Bool.{Bool, true, false, cond}
 use mathlib.Core.List.{List, [], _∷_, _++_}
 use Prim.Native.Nat.{ℕ, _^_, _<_}
 use lib.Dec.{eqb, ltb}
+use lib.ListN.{length, drop}
 use Rattle.leb128.specs.Unsigned.{encode}
 use Rattle.types.specs.declared.Height.{Height}
 use Rattle.types.specs.declared.Round.{Round}
@@ -30,6 +31,12 @@ abbrev pub ValidKey : {D : Type 0} → (D → Type 0) → Key D → Type 0
 ValidKey valid (Block d) = valid d
 ValidKey valid (Finalized h) = h .0 < 2 ^ 64
 ValidKey valid (Notarized r) = (r .epoch .0 < 2 ^ 64) × (r .view .0 < 2 ^ 64)
+
+-- the key k stands at the front of bs, and rest behind it
+pub record KeyAt {D : Type 0} (image : D → List ℕ) (valid : D → Type 0) (bs : List ℕ) (k : Key D) (rest : List ℕ) : Type 0 where
+  pub front : bs ≡ keyBytes image k ++ rest
+  pub behind : rest ≡ drop (length (keyBytes image k)) bs
+  pub holds : ValidKey valid k
 
 -- no other key has the bytes of k, and none has bytes that begin with them or that they begin with
 abbrev pub Alone : {D : Type 0} → (D → List ℕ) → (D → Type 0) → Key D → Type 0

@@ -1,3 +1,4 @@
 pub mod Keys
 pub mod Refusals
 pub mod Borrowed
+pub mod Readers

@@ -1,15 +1,17 @@
 //! Keys that own their content.
 ghost use mathlib.Core.Path.{_≡_};
 ghost use mathlib.Core.List.{List, _++_};
-ghost use Prim.Native.Nat.{_+_, _^_, _<_, _≤_};
+ghost use Prim.Native.Nat.{ℕ, _+_, _^_, _<_, _≤_};
 ghost use lib.ListN.{length, drop};
 ghost use Rattle.std.specs.Results.{Cases};
 ghost use Rattle.refusals.specs.declared.Refusal.{Refusal};
 ghost use Rattle.refusals.specs.Refusals.{refusal, bytesNeeded, refusalOf as writeRefusalOf};
 ghost use Rattle.leb128.specs.Unsigned.{encode};
 ghost use Rattle.keys.specs.declared.error.Location.{Location};
-ghost use Rattle.keys.specs.Keys.{tagOf, contentBytes, keyBytes, keyLess, ValidKey, Alone};
+ghost use Rattle.keys.specs.Keys.{tagOf, contentBytes, keyBytes, keyLess, ValidKey, KeyAt, Alone};
 ghost use Rattle.keys.specs.Refusals.{refusalOf, Refuses};
+use crate::error::ReadError;
+use crate::key_ref::KeyRef;
 use digests::Digest;
 use order::Equality;
 use order::TotalOrder;
@@ -58,6 +60,17 @@ fn write_round(round: Round, out: &mut [u8]) -> Result<usize, WriteError>
 }
 
 impl<D: Digest> Key<D> {
+    /// Reads the key at the front of `bytes` into `key`, and answers the rest of `bytes`. A refusal leaves `key` as it was.
+    pub fn read<'a>(bytes: &'a [u8], key: &mut Key<D>) -> Result<&'a [u8], ReadError>
+        ensures reads { λ r. ⌜ Cases r (λ rest. KeyAt (D·Digest .image) (D·Digest .valid) (now (bytes .entry)) (now (key .exit)) (now rest)) (λ e. (now (key .exit) ≡ now (key .entry)) × Refuses (D·Digest .size) (now (bytes .entry)) (refusalOf e)) ⌝ }
+        ensures accepts { λ r. ⌜ ((k : Key D) (s : List ℕ) → ValidKey (D·Digest .valid) k → now (bytes .entry) ≡ keyBytes (D·Digest .image) k ++ s → Cases r (λ rest. (now (key .exit) ≡ k) × (now rest ≡ s)) (λ _. ⊥)) ⌝ }
+        ensures refuses { λ r. ⌜ ((f : Refusal Location) → Refuses (D·Digest .size) (now (bytes .entry)) f → Cases r (λ _. ⊥) (λ e. refusalOf e ≡ f)) ⌝ }
+    {
+        let (borrowed, rest) = KeyRef::read::<D>(bytes)?;
+        *key = borrowed.to_key()?;
+        Ok(rest)
+    }
+
     /// The tag.
     fn subject(&self) -> u8
         ensures { λ r. ⌜ r ≡ tagOf (now (self .entry)) ⌝ }
