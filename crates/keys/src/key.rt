@@ -108,7 +108,7 @@ impl<D: Digest> Key<D> {
     /// Writes the key at the front of `out`, and answers how many bytes that took. Where `out` is too short for the
     /// whole key, nothing is written.
     pub fn write(&self, out: &mut [u8]) -> Result<usize, WriteError>
-        ensures writes { λ r. ⌜ Cases r (λ k. (k ≡ length (keyBytes (D·Digest .image) (now (self .entry)))) × (now (out .exit) ≡ keyBytes (D·Digest .image) (now (self .entry)) ++ drop k (now (out .entry)))) (λ e. (writeRefusalOf e ≡ refusal 5 (bytesNeeded (length (keyBytes (D·Digest .image) (now (self .entry)))))) × (length (now (out .entry)) < length (keyBytes (D·Digest .image) (now (self .entry)))) × (now (out .exit) ≡ now (out .entry))) ⌝ }
+        ensures writes { λ r. ⌜ Cases r (λ k. (k ≡ length (keyBytes (D·Digest .image) (now (self .entry)))) × (k ≤ length (now (out .entry))) × (now (out .exit) ≡ keyBytes (D·Digest .image) (now (self .entry)) ++ drop k (now (out .entry)))) (λ e. (writeRefusalOf e ≡ refusal 5 (bytesNeeded (length (keyBytes (D·Digest .image) (now (self .entry)))))) × (length (now (out .entry)) < length (keyBytes (D·Digest .image) (now (self .entry)))) × (now (out .exit) ≡ now (out .entry))) ⌝ }
         ensures one { λ _. ⌜ Alone (D·Digest .image) (D·Digest .valid) (now (self .entry)) ⌝ }
     {
         let needed = self.encode_size();

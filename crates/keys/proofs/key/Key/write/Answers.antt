@@ -31,6 +31,7 @@ returns g c =
     record {
       writes = (
         e,
+        c .if-out-needed .left,
         put-tag (c .subject .result) k (c .in-Continue-write-content .field-0) x (c .args .out .now) (w .0) n (c .if-out-needed .left) (c .write-content .last .out) (w .1)
             ∙ ap (λ (t : ℕ). t ∷ (x ++ drop k (c .args .out .now))) (c .subject .ensures),
       );
