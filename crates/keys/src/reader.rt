@@ -1,7 +1,7 @@
 //! A reader over many keys in one buffer.
 ghost use mathlib.Core.Path.{_≡_};
 ghost use mathlib.Core.List.{List, _++_};
-ghost use Prim.Native.Nat.{ℕ, _+_};
+ghost use Prim.Native.Nat.{ℕ, _+_, _≤_};
 ghost use lib.Dec.{eqb};
 ghost use lib.ListN.{length, drop};
 ghost use Rattle.std.specs.Results.{Cases};
@@ -47,7 +47,7 @@ impl<'a> Reader<'a> {
 
     /// Reads the next key into `key`. A refusal leaves `key` and the reader as they were.
     pub fn next<D: Digest>(&mut self, key: &mut Key<D>) -> Result<(), ReadError>
-        ensures reads { λ r. ⌜ Cases r (λ _. KeyAt (D·Digest .image) (D·Digest .valid) (remaining (now (self .entry))) (now (key .exit)) (remaining (now (self .exit))) × (now (self .exit) .cursor .place ≡ now (self .entry) .cursor .place + length (keyBytes (D·Digest .image) (now (key .exit))))) (λ e. (now (key .exit) ≡ now (key .entry)) × (now (self .exit) .cursor .place ≡ now (self .entry) .cursor .place) × Refuses (D·Digest .size) (remaining (now (self .entry))) (refusalOf e)) ⌝ }
+        ensures reads { λ r. ⌜ Cases r (λ _. KeyAt (D·Digest .image) (D·Digest .valid) (remaining (now (self .entry))) (now (key .exit)) (remaining (now (self .exit))) × (now (self .exit) .cursor .place ≡ now (self .entry) .cursor .place + length (keyBytes (D·Digest .image) (now (key .exit)))) × (now (self .exit) .cursor .place ≤ length (now (now (self .entry) .bytes)))) (λ e. (now (key .exit) ≡ now (key .entry)) × (now (self .exit) .cursor .place ≡ now (self .entry) .cursor .place) × Refuses (D·Digest .size) (remaining (now (self .entry))) (refusalOf e)) ⌝ }
         ensures bytes { λ _. ⌜ now (now (self .exit) .bytes) ≡ now (now (self .entry) .bytes) ⌝ }
         ensures accepts { λ r. ⌜ ((k : Key D) (s : List ℕ) → ValidKey (D·Digest .valid) k → remaining (now (self .entry)) ≡ keyBytes (D·Digest .image) k ++ s → Cases r (λ _. (now (key .exit) ≡ k) × (remaining (now (self .exit)) ≡ s)) (λ _. ⊥)) ⌝ }
         ensures refuses { λ r. ⌜ ((f : Refusal Location) → Refuses (D·Digest .size) (remaining (now (self .entry))) f → Cases r (λ _. ⊥) (λ e. refusalOf e ≡ f)) ⌝ }

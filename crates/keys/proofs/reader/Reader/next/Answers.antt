@@ -44,7 +44,7 @@ returns g c =
     let a = copied (m .image) (m .size) (m .valid) (law .long) bs (c .in-Continue-borrowed .borrowed) rest b k (c .in-Continue-key .ensures tt) in
     let f = ap length (sym (b .front) ∙ a .front) in
     record {
-      reads = (a, omega (arith, f, length-append (refBytes (c .in-Continue-borrowed .borrowed)) rest, length-append (keyBytes (m .image) k) rest, c .in-Continue-borrowed .ensures tt .1));
+      reads = (a, omega (arith, f, length-append (refBytes (c .in-Continue-borrowed .borrowed)) rest, length-append (keyBytes (m .image) k) rest, c .in-Continue-borrowed .ensures tt .1), c .in-Continue-borrowed .ensures tt .2);
       bytes = refl;
       accepts = λ j s w e. alone (m .image) (m .size) (m .valid) (law .long) (law .one) k (a .holds) j rest s w (sym (a .front) ∙ e);
       refuses = λ f h. not-refused (m .image) (m .size) (m .valid) (law .long) (law .one) bs f h k rest (a .holds) (a .front);
