@@ -2,8 +2,9 @@
 ghost use mathlib.Core.Bool.{true, false};
 ghost use mathlib.Core.Path.{_≡_};
 ghost use mathlib.Core.List.{List, [], _∷_};
-ghost use Prim.Native.Nat.{ℕ, _≤_};
-ghost use lib.ListN.{length};
+ghost use Prim.Native.Nat.{ℕ, _^_, _<_, _≤_};
+ghost use lib.ListN.{length, drop, set};
+ghost use Rattle.std.specs.Results.{Cases};
 ghost use Rattle.std.specs.declared.option.Option.the-variants.{Some};
 ghost use Rattle.refusals.specs.declared.Refusal.{Refusal as RefusalOf};
 ghost use Rattle.digests.specs.BigEndian.{bigEndian};
@@ -12,12 +13,14 @@ ghost use Rattle.keys.specs.declared.error.Layer.the-variants as layer;
 ghost use Rattle.keys.specs.declared.error.Field.the-variants as field;
 ghost use Rattle.keys.specs.declared.error.Location.{Location as LocationOf};
 ghost use Rattle.keys.specs.declared.error.Location.the-variants.{InField, AtTag};
-ghost use Rattle.keys.specs.Keys.{keyBytes};
-ghost use Rattle.keys.specs.Refusals.{Refuses};
+ghost use Rattle.keys.specs.Keys.{keyBytes, KeyAt};
+ghost use Rattle.keys.specs.Refusals.{refusalOf, Refuses};
 ghost use Rattle.worked_examples.specs.Examples.{Examples};
 use digests::U64Digest;
 use keys::Key;
+use keys::KeyRef;
 use keys::Location;
+use keys::ReadError;
 use order::U64Equality;
 use order::U64Order;
 use refusals::Refusal;
@@ -85,6 +88,17 @@ pub fn worked_examples() -> WorkedExamples
         refused: refused(),
         covered: covered(),
     }
+}
+
+/// Reads a borrowed key, copies it, and only then overwrites the bytes under it: the copy stays what was read. The other
+/// way round does not build, since the bytes are lent as long as the borrowed key is used.
+pub fn copy_then_overwrite(bytes: &mut [u8]) -> Result<Key<u64>, ReadError>
+    ensures { λ r. ⌜ Cases r (λ k. KeyAt bigEndian (λ n. n < 2 ^ 64) (now (bytes .entry)) k (drop (length (keyBytes bigEndian k)) (now (bytes .entry))) × (now (bytes .exit) ≡ set (now (bytes .entry)) 0 255)) (λ e. Refuses 8 (now (bytes .entry)) (refusalOf e) × (now (bytes .exit) ≡ now (bytes .entry))) ⌝ }
+{
+    let (borrowed, _) = KeyRef::read::<u64>(bytes)?;
+    let key = borrowed.to_key()?;
+    bytes[0] = 0xFF;
+    Ok(key)
 }
 
 fn written() -> [bool; 3]
