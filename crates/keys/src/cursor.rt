@@ -11,12 +11,17 @@ ghost use Rattle.leb128.specs.Refusals.{Refuses as NumberRefuses};
 ghost use Rattle.keys.specs.declared.error.Layer.the-variants as layer;
 ghost use Rattle.keys.specs.declared.error.Field.the-variants as field;
 ghost use Rattle.keys.specs.declared.error.Location.the-variants.{InField};
-ghost use Rattle.keys.specs.Borrowed.{refBytes, Borrows};
+ghost use Rattle.refusals.specs.declared.Refusal.{Refusal};
+ghost use Rattle.keys.specs.declared.error.Location.{Location};
+ghost use Rattle.keys.specs.Keys.{keyBytes, ValidKey, KeyAt};
+ghost use Rattle.keys.specs.Borrowed.{refBytes, Borrows, Views};
 ghost use Rattle.keys.specs.Refusals.{refusalOf, Refuses};
 use crate::error::Field;
 use crate::error::Layer;
 use crate::error::ReadError;
+use crate::key::Key;
 use crate::key_ref::KeyRef;
+use digests::Digest;
 use types::Epoch;
 use types::Height;
 use types::Round;
@@ -51,6 +56,14 @@ impl Drop for Rewind<'_> {
 }
 
 impl Cursor {
+    /// What is left of `bytes`.
+    pub(crate) fn rest<'b>(&self, bytes: &'b [u8]) -> &'b [u8]
+        requires { ⌜ now self .place ≤ length (now bytes) ⌝ }
+        ensures { λ r. ⌜ now r ≡ drop (now (self .entry) .place) (now (bytes .entry)) ⌝ }
+    {
+        &bytes[self.place..]
+    }
+
     /// The byte at the cursor.
     fn take_tag(&mut self, bytes: &[u8]) -> Result<u8, ReadError>
         ensures { λ r. ⌜ Cases r (λ tag. (now (self .exit) .place ≡ now (self .entry) .place + 1) × (now (self .entry) .place < length (now (bytes .entry))) × (tag ≡ getD (now (bytes .entry)) (now (self .entry) .place) 0)) (λ e. (refusalOf e ≡ refusal 1 (InField layer.Key field.Tag 0)) × (length (now (bytes .entry)) ≤ now (self .entry) .place)) ⌝ }
@@ -138,5 +151,29 @@ impl Cursor {
                 place: 0,
             }),
         }
+    }
+
+    /// As `next`, with a digest of the type `D`; also says that no other answer would do.
+    pub(crate) fn read<'b, D: Digest>(&mut self, bytes: &'b [u8]) -> Result<KeyRef<'b>, ReadError>
+        ensures reads { λ r. ⌜ Cases r (λ k. Borrows (D·Digest .size) (drop (now (self .entry) .place) (now (bytes .entry))) k (drop (now (self .exit) .place) (now (bytes .entry))) × (now (self .exit) .place ≡ now (self .entry) .place + length (refBytes k)) × (now (self .exit) .place ≤ length (now (bytes .entry)))) (λ e. (now (self .exit) .place ≡ now (self .entry) .place) × Refuses (D·Digest .size) (drop (now (self .entry) .place) (now (bytes .entry))) (refusalOf e)) ⌝ }
+        ensures accepts { λ r. ⌜ ((k : Key D) (s : List ℕ) → ValidKey (D·Digest .valid) k → drop (now (self .entry) .place) (now (bytes .entry)) ≡ keyBytes (D·Digest .image) k ++ s → Cases r (λ b. Views (D·Digest .image) b k × (drop (now (self .exit) .place) (now (bytes .entry)) ≡ s)) (λ _. ⊥)) ⌝ }
+        ensures refuses { λ r. ⌜ ((f : Refusal Location) → Refuses (D·Digest .size) (drop (now (self .entry) .place) (now (bytes .entry))) f → Cases r (λ _. ⊥) (λ e. refusalOf e ≡ f)) ⌝ }
+    {
+        self.next(bytes, D::size())
+    }
+
+    /// Reads the key at the cursor into `key`. A refusal leaves `key` and the cursor as they were.
+    pub(crate) fn read_key<D: Digest>(
+        &mut self,
+        bytes: &[u8],
+        key: &mut Key<D>,
+    ) -> Result<(), ReadError>
+        ensures reads { λ r. ⌜ Cases r (λ _. KeyAt (D·Digest .image) (D·Digest .valid) (drop (now (self .entry) .place) (now (bytes .entry))) (now (key .exit)) (drop (now (self .exit) .place) (now (bytes .entry))) × (now (self .exit) .place ≡ now (self .entry) .place + length (keyBytes (D·Digest .image) (now (key .exit)))) × (now (self .exit) .place ≤ length (now (bytes .entry)))) (λ e. (now (key .exit) ≡ now (key .entry)) × (now (self .exit) .place ≡ now (self .entry) .place) × Refuses (D·Digest .size) (drop (now (self .entry) .place) (now (bytes .entry))) (refusalOf e)) ⌝ }
+        ensures accepts { λ r. ⌜ ((k : Key D) (s : List ℕ) → ValidKey (D·Digest .valid) k → drop (now (self .entry) .place) (now (bytes .entry)) ≡ keyBytes (D·Digest .image) k ++ s → Cases r (λ _. (now (key .exit) ≡ k) × (drop (now (self .exit) .place) (now (bytes .entry)) ≡ s)) (λ _. ⊥)) ⌝ }
+        ensures refuses { λ r. ⌜ ((f : Refusal Location) → Refuses (D·Digest .size) (drop (now (self .entry) .place) (now (bytes .entry))) f → Cases r (λ _. ⊥) (λ e. refusalOf e ≡ f)) ⌝ }
+    {
+        let borrowed = self.read::<D>(bytes)?;
+        *key = borrowed.to_key()?;
+        Ok(())
     }
 }

@@ -10,8 +10,8 @@ ghost use Rattle.leb128.specs.Unsigned.{encode};
 ghost use Rattle.keys.specs.declared.error.Location.{Location};
 ghost use Rattle.keys.specs.Keys.{tagOf, contentBytes, keyBytes, keyLess, ValidKey, KeyAt, Alone};
 ghost use Rattle.keys.specs.Refusals.{refusalOf, Refuses};
+use crate::cursor::Cursor;
 use crate::error::ReadError;
-use crate::key_ref::KeyRef;
 use digests::Digest;
 use order::Equality;
 use order::TotalOrder;
@@ -66,9 +66,9 @@ impl<D: Digest> Key<D> {
         ensures accepts { λ r. ⌜ ((k : Key D) (s : List ℕ) → ValidKey (D·Digest .valid) k → now (bytes .entry) ≡ keyBytes (D·Digest .image) k ++ s → Cases r (λ rest. (now (key .exit) ≡ k) × (now rest ≡ s)) (λ _. ⊥)) ⌝ }
         ensures refuses { λ r. ⌜ ((f : Refusal Location) → Refuses (D·Digest .size) (now (bytes .entry)) f → Cases r (λ _. ⊥) (λ e. refusalOf e ≡ f)) ⌝ }
     {
-        let (borrowed, rest) = KeyRef::read::<D>(bytes)?;
-        *key = borrowed.to_key()?;
-        Ok(rest)
+        let mut cursor = Cursor { place: 0 };
+        cursor.read_key(bytes, key)?;
+        Ok(cursor.rest(bytes))
     }
 
     /// The tag.

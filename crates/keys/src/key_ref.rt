@@ -35,8 +35,8 @@ impl<'a> KeyRef<'a> {
         ensures refuses { λ r. ⌜ ((f : Refusal Location) → Refuses (D·Digest .size) (now (bytes .entry)) f → Cases r (λ _. ⊥) (λ e. refusalOf e ≡ f)) ⌝ }
     {
         let mut cursor = Cursor { place: 0 };
-        let key = cursor.next(bytes, D::size())?;
-        Ok((key, &bytes[cursor.place..]))
+        let key = cursor.read::<D>(bytes)?;
+        Ok((key, cursor.rest(bytes)))
     }
 
     /// A key of its own. The digest is read at the front of the part, which is long enough in a key that was read for a `D`.

@@ -1,9 +1,9 @@
 //! A reader over many keys in one buffer.
 ghost use mathlib.Core.Path.{_≡_};
 ghost use mathlib.Core.List.{List, _++_};
-ghost use Prim.Native.Nat.{ℕ, _+_, _≤_};
-ghost use lib.Dec.{eqb};
+ghost use Prim.Native.Nat.{ℕ, _+_, _<_, _≤_};
 ghost use lib.ListN.{length, drop};
+ghost use Rattle.std.specs.Orderings.{When};
 ghost use Rattle.std.specs.Results.{Cases};
 ghost use Rattle.refusals.specs.declared.Refusal.{Refusal};
 ghost use Rattle.keys.specs.declared.error.Location.{Location};
@@ -40,7 +40,7 @@ impl<'a> Reader<'a> {
 
     /// Whether nothing is left to read.
     pub fn is_empty(&self) -> bool
-        ensures { λ r. ⌜ r ≡ eqb (length (remaining (now (self .entry)))) 0 ⌝ }
+        ensures { λ r. ⌜ When r (length (now (now (self .entry) .bytes)) ≤ now (self .entry) .cursor .place) (now (self .entry) .cursor .place < length (now (now (self .entry) .bytes))) ⌝ }
     {
         self.cursor.place >= self.bytes.len()
     }
@@ -53,8 +53,6 @@ impl<'a> Reader<'a> {
         ensures refuses { λ r. ⌜ ((f : Refusal Location) → Refuses (D·Digest .size) (remaining (now (self .entry))) f → Cases r (λ _. ⊥) (λ e. refusalOf e ≡ f)) ⌝ }
     {
         let bytes = self.bytes;
-        let borrowed = self.cursor.next(bytes, D::size())?;
-        *key = borrowed.to_key()?;
-        Ok(())
+        self.cursor.read_key(bytes, key)
     }
 }
