@@ -1,18 +1,19 @@
 //! Digests: values of a fixed number of bytes.
 ghost use mathlib.Core.Path.{_≡_};
 ghost use mathlib.Core.List.{List, _++_};
-ghost use Prim.Native.Nat.{ℕ, _^_, _<_, _≤_};
+ghost use Prim.Native.Nat.{ℕ, _<_, _≤_};
 ghost use lib.ListN.{length, take, drop};
 ghost use Rattle.order.specs.Orders.{lexLess};
 ghost use Rattle.std.specs.Options.{Cases as BySome};
 ghost use Rattle.std.specs.Results.{Cases};
 ghost use Rattle.refusals.specs.Refusals.{refusal, bytesNeeded, refusalOf};
-ghost use Rattle.digests.specs.BigEndian.{bigEndian};
-use order::Bytes32Equality;
-use order::Bytes32Order;
+
+mod bytes32;
+mod number;
+
+pub use bytes32::Bytes32Digest;
+pub use number::U64Digest;
 use order::TotalOrder;
-use order::U64Equality;
-use order::U64Order;
 use refusals::WriteError;
 
 /// A value of so many bytes, the same number for every value of the type.
@@ -49,74 +50,4 @@ pub trait Digest: TotalOrder + Copy {
     /// Writes the digest at the front of `out`, and answers how many bytes that took.
     fn write(&self, out: &mut [u8]) -> Result<usize, WriteError>
         ensures { λ r. ⌜ Cases r (λ k. (k ≡ length (image (now (self .entry)))) × (k ≤ length (now (out .entry))) × (now (out .exit) ≡ image (now (self .entry)) ++ drop k (now (out .entry)))) (λ e. (refusalOf e ≡ refusal 5 (bytesNeeded (length (image (now (self .entry)))))) × (length (now (out .entry)) < length (image (now (self .entry)))) × (now (out .exit) ≡ now (out .entry))) ⌝ };
-}
-
-pub impl Digest for [u8; 32] as Bytes32Digest {
-    ghost image = { λ d. d };
-
-    ghost size = { 32 };
-
-    ghost valid = { λ d. length d ≡ 32 };
-
-    fn size() -> usize {
-        32
-    }
-
-    fn read(bytes: &[u8]) -> Option<[u8; 32]> {
-        if bytes.len() < 32 {
-            return None;
-        }
-        let mut digest = [0u8; 32];
-        digest.copy_from_slice(&bytes[0..32]);
-        Some(digest)
-    }
-
-    fn encode_size(&self) -> usize {
-        32
-    }
-
-    fn write(&self, out: &mut [u8]) -> Result<usize, WriteError> {
-        let needed = 32;
-        if out.len() < needed {
-            return Err(WriteError::OutputTooShort { needed });
-        }
-        out[0..32].copy_from_slice(self);
-        Ok(needed)
-    }
-}
-
-/// A number of 64 bits in eight bytes, the high byte first.
-pub impl Digest for u64 as U64Digest {
-    ghost image = { bigEndian };
-
-    ghost size = { 8 };
-
-    ghost valid = { λ n. n < 2 ^ 64 };
-
-    fn size() -> usize {
-        8
-    }
-
-    fn read(bytes: &[u8]) -> Option<u64> {
-        if bytes.len() < 8 {
-            return None;
-        }
-        let mut digest = [0u8; 8];
-        digest.copy_from_slice(&bytes[0..8]);
-        Some(u64::from_be_bytes(digest))
-    }
-
-    fn encode_size(&self) -> usize {
-        self.to_be_bytes().len()
-    }
-
-    fn write(&self, out: &mut [u8]) -> Result<usize, WriteError> {
-        let needed = 8;
-        if out.len() < needed {
-            return Err(WriteError::OutputTooShort { needed });
-        }
-        let digest = self.to_be_bytes();
-        out[0..8].copy_from_slice(&digest);
-        Ok(needed)
-    }
 }

@@ -10,8 +10,8 @@ use Rattle.refusals.specs.Refusals.{refusal}
 use Rattle.leb128.specs.Unsigned.{encode}
 use Rattle.leb128.specs.Refusals.{Refuses as NumberRefuses}
 use Rattle.leb128.proofs.Refused.{none-begins, one-number, one-refusal as one-number-refusal}
-use Rattle.types.specs.declared.Height.{Height}
-use Rattle.types.specs.declared.Round.{Round}
+use Rattle.types.specs.declared.height.Height.{Height}
+use Rattle.types.specs.declared.round.Round.{Round}
 use Rattle.keys.specs.declared.key.Key.{Key}
 use Rattle.keys.specs.declared.key.Key.the-variants.{Block, Finalized, Notarized}
 use Rattle.keys.specs.declared.error.Layer.the-variants as layer

@@ -9,8 +9,8 @@ use Rattle.std.proofs.shelf.Lists.{drop-at, take-all}
 use Rattle.refusals.specs.declared.Refusal.{Refusal}
 use Rattle.leb128.specs.Unsigned.{encode}
 use Rattle.leb128.proofs.Refused.{one-number}
-use Rattle.types.specs.declared.Height.{Height}
-use Rattle.types.specs.declared.Round.{Round}
+use Rattle.types.specs.declared.height.Height.{Height}
+use Rattle.types.specs.declared.round.Round.{Round}
 use Rattle.std.specs.Results.{Cases}
 use Rattle.std.specs.declared.result.Result.{Result}
 use Rattle.std.specs.declared.result.Result.the-variants.{Ok, Err}

@@ -7,10 +7,10 @@ use lib.Dec.{ltb}
 use Rattle.std.proofs.shelf.Tests.{false≢true, ltb-true, ltb-false, lt-ltb, le-ltb}
 use Rattle.order.specs.Orders.{Total}
 use Rattle.order.proofs.Totals.{asymmetric, connected, pair-total, total-from, total-by, tagged-total}
-use Rattle.types.specs.declared.Epoch.{Epoch}
-use Rattle.types.specs.declared.Height.{Height}
-use Rattle.types.specs.declared.View.{View}
-use Rattle.types.specs.declared.Round.{Round}
+use Rattle.types.specs.declared.epoch.Epoch.{Epoch}
+use Rattle.types.specs.declared.height.Height.{Height}
+use Rattle.types.specs.declared.view.View.{View}
+use Rattle.types.specs.declared.round.Round.{Round}
 use Rattle.types.specs.Rounds.{roundLess}
 use Rattle.keys.specs.declared.key.Key.{Key}
 use Rattle.keys.specs.declared.key.Key.the-variants.{Block, Finalized, Notarized}

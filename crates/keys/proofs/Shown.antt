@@ -7,8 +7,8 @@ use denote.Ref.{RefT, now}
 use lib.ListN.{length, getD, take, drop}
 use Rattle.std.proofs.shelf.Lists.{drop-at, drop-drop, length-append, length-drop, length-take-le, append-assoc, take-append-drop}
 use Rattle.refusals.specs.Refusals.{refusal}
-use Rattle.types.specs.declared.Height.{Height}
-use Rattle.types.specs.declared.Round.{Round}
+use Rattle.types.specs.declared.height.Height.{Height}
+use Rattle.types.specs.declared.round.Round.{Round}
 use Rattle.leb128.specs.Unsigned.{encode}
 use Rattle.leb128.specs.Refusals.{Refuses as NumberRefuses}
 use Rattle.keys.specs.declared.error.Layer.the-variants as layer

@@ -6,8 +6,8 @@ use Prim.Native.Nat.{ℕ, _^_, _<_}
 use lib.Dec.{eqb, ltb}
 use lib.ListN.{length, drop}
 use Rattle.leb128.specs.Unsigned.{encode}
-use Rattle.types.specs.declared.Height.{Height}
-use Rattle.types.specs.declared.Round.{Round}
+use Rattle.types.specs.declared.height.Height.{Height}
+use Rattle.types.specs.declared.round.Round.{Round}
 use Rattle.types.specs.Rounds.{roundLess}
 use Rattle.keys.specs.declared.key.Key.{Key}
 use Rattle.keys.specs.declared.key.Key.the-variants.{Block, Finalized, Notarized}

@@ -42,7 +42,7 @@ impl<'a> Reader<'a> {
     pub fn is_empty(&self) -> bool
         ensures { λ r. ⌜ When r (length (now (now (self .entry) .bytes)) ≤ now (self .entry) .cursor .place) (now (self .entry) .cursor .place < length (now (now (self .entry) .bytes))) ⌝ }
     {
-        self.cursor.place >= self.bytes.len()
+        self.bytes.len() <= self.cursor.place
     }
 
     /// Reads the next key into `key`. A refusal leaves `key` and the reader as they were.

@@ -5,9 +5,9 @@ use mathlib.Core.Logic.{_⊎_}
 use Prim.Native.Nat.{ℕ, _≤_}
 use lib.Dec.{ltb}
 use Rattle.order.specs.Orders.{pairLess}
-use Rattle.types.specs.declared.Round.{Round}
-use Rattle.types.specs.declared.Cutoff.{Cutoff}
-use Rattle.types.specs.declared.Cutoff.the-variants as cutoff
+use Rattle.types.specs.declared.round.Round.{Round}
+use Rattle.types.specs.declared.cutoff.Cutoff.{Cutoff}
+use Rattle.types.specs.declared.cutoff.Cutoff.the-variants as cutoff
 
 -- by epoch, then by view
 abbrev pub roundLess : Round → Round → Bool

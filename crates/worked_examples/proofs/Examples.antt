@@ -8,7 +8,7 @@ use lib.Dec.{lit<, lit≤}
 use lib.ListN.{getD, replicate}
 use Rattle.std.proofs.shelf.Tests.{false≢true}
 use Rattle.refusals.specs.Refusals.{refusal}
-use Rattle.types.specs.declared.Round.{Round}
+use Rattle.types.specs.declared.round.Round.{Round}
 use Rattle.leb128.specs.Unsigned.{encode, Continues}
 use Rattle.leb128.proofs.Numbers.{encode-last, encode-more}
 use Rattle.leb128.specs.Refusals as number

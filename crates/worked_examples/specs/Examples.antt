@@ -3,10 +3,10 @@ use mathlib.Core.Path.{_≡_}
 use mathlib.Core.List.{List, [], _∷_}
 use Prim.Native.Nat.{ℕ}
 use Rattle.refusals.specs.Refusals.{refusal}
-use Rattle.types.specs.declared.Height.{Height}
-use Rattle.types.specs.declared.Epoch.{Epoch}
-use Rattle.types.specs.declared.Round.{Round}
-use Rattle.types.specs.declared.Cutoff.the-variants as cutoff
+use Rattle.types.specs.declared.height.Height.{Height}
+use Rattle.types.specs.declared.epoch.Epoch.{Epoch}
+use Rattle.types.specs.declared.round.Round.{Round}
+use Rattle.types.specs.declared.cutoff.Cutoff.the-variants as cutoff
 use Rattle.types.specs.Rounds.{Covers}
 use Rattle.keys.specs.declared.key.Key.{Key}
 use Rattle.keys.specs.declared.key.Key.the-variants.{Finalized, Notarized}

@@ -102,7 +102,8 @@ pub fn copy_then_overwrite(bytes: &mut [u8]) -> Result<Key<u64>, ReadError>
 }
 
 fn written() -> [bool; 3]
-    ensures { λ r. ⌜ r ≡ true ∷ true ∷ true ∷ [] ⌝ }
+    ensures list { λ _. ⌜ Examples bigEndian 8 × Examples (λ (d : List ℕ). d) 32 ⌝ }
+    ensures value { λ r. ⌜ r ≡ true ∷ true ∷ true ∷ [] ⌝ }
 {
     let key = Key::Notarized {
         round: round(1, 128),

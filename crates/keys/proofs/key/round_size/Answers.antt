@@ -3,8 +3,8 @@ use Prim.Native.Nat.{ℕ}
 use lib.ListN.{length}
 use native.Mathlib.Omega.{arith}
 use Rattle.std.proofs.shelf.Lists.{length-append}
-use Rattle.types.specs.declared.Epoch.{Epoch}
-use Rattle.types.specs.declared.View.{View}
+use Rattle.types.specs.declared.epoch.Epoch.{Epoch}
+use Rattle.types.specs.declared.view.View.{View}
 use Rattle.leb128.specs.Unsigned.{encode}
 use Rattle.keys.proofs.key.round_size.Needs as need
 

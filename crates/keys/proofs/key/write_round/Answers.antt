@@ -5,8 +5,8 @@ use native.Mathlib.Omega.{arith}
 use lib.ListN.{length, take, drop}
 use Rattle.std.proofs.shelf.Results.{err-from-errBy}
 use Rattle.std.proofs.shelf.Lists.{length-append}
-use Rattle.types.specs.declared.Epoch.{Epoch}
-use Rattle.types.specs.declared.View.{View}
+use Rattle.types.specs.declared.epoch.Epoch.{Epoch}
+use Rattle.types.specs.declared.view.View.{View}
 use Rattle.leb128.specs.Unsigned.{encode}
 use Rattle.keys.proofs.Writing.{whole-size, no-room, put-two}
 use Rattle.keys.proofs.key.write_round.Needs as need

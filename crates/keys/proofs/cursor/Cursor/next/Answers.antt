@@ -6,8 +6,8 @@ use borrow.Author.Needs.{needs}
 use lib.ListN.{length, drop}
 use Rattle.std.proofs.shelf.Results.{err-from-errBy}
 use Rattle.refusals.specs.Refusals.{refusal}
-use Rattle.types.specs.declared.Epoch.{Epoch}
-use Rattle.types.specs.declared.View.{View}
+use Rattle.types.specs.declared.epoch.Epoch.{Epoch}
+use Rattle.types.specs.declared.view.View.{View}
 use Rattle.keys.specs.declared.error.Layer.the-variants as layer
 use Rattle.keys.specs.declared.error.Field.the-variants as field
 use Rattle.keys.specs.declared.error.Location.the-variants.{InField}

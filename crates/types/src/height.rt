@@ -1,0 +1,48 @@
+//! Heights.
+ghost use lib.Dec.{ltb};
+ghost use mathlib.Core.Path.{_≡_};
+use order::Equality;
+use order::TotalOrder;
+use order::U64Equality;
+use order::U64Order;
+use std::cmp::Ordering;
+use std::fmt;
+
+/// A position in the chain of blocks.
+#[derive(Clone, Copy)]
+pub struct Height(u64);
+
+impl Height {
+    pub fn new(value: u64) -> Self
+        ensures { λ r. ⌜ r .0 ≡ value ⌝ }
+    {
+        Height(value)
+    }
+
+    pub fn get(self) -> u64
+        ensures { λ r. ⌜ r ≡ self .0 ⌝ }
+    {
+        self.0
+    }
+}
+
+pub impl Equality for Height as HeightEquality {
+    fn equals(&self, other: &Height) -> bool {
+        self.get().equals(&other.get())
+    }
+}
+
+pub impl TotalOrder for Height as HeightOrder {
+    ghost less = { λ a b. ltb (a .0) (b .0) };
+
+    fn compare(&self, other: &Height) -> Ordering {
+        self.get().compare(&other.get())
+    }
+}
+
+pub impl fmt::Display for Height as HeightDisplay {
+    fn fmt<W: fmt::Write>(&self, f: &mut fmt::Formatter<W>) -> fmt::Result {
+        let value = self.get();
+        write!(f, "{value}")
+    }
+}
