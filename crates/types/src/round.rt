@@ -43,7 +43,8 @@ impl Round {
 
 pub impl Equality for Round as RoundEquality {
     fn equals(&self, other: &Round) -> bool {
-        self.epoch.equals(&other.epoch) && self.view.equals(&other.view)
+        let Round { epoch, view } = *self;
+        epoch.equals(&other.epoch) && view.equals(&other.view)
     }
 }
 
