@@ -1,4 +1,7 @@
 //! The keys of a line.
+ghost use mathlib.Core.Path.{_≡_};
+ghost use Rattle.std.specs.declared.option.Option.the-variants.{None};
+use crate::totals::Event;
 use crate::totals::Totals;
 use digests::Digest;
 use keys::Key;
@@ -39,7 +42,9 @@ pub struct Dump<D> {
 }
 
 impl<D: Digest> Dump<D> {
-    pub fn new() -> Dump<D> {
+    pub fn new() -> Dump<D>
+        ensures { λ r. ⌜ r .last ≡ None ⌝ }
+    {
         Dump { last: None }
     }
 
@@ -57,7 +62,7 @@ impl<D: Digest> Dump<D> {
                     self.key(rt, start, key, read, totals)?;
                 }
                 Err(e) => {
-                    totals.refusal();
+                    totals.count(Event::Refusal);
                     let refusal = e.refusal();
                     return println!(rt, "  at {start}: {refusal}");
                 }
@@ -82,13 +87,16 @@ impl<D: Digest> Dump<D> {
         let size = match key.write(&mut out) {
             Ok(size) => size,
             Err(e) => {
-                totals.refusal();
+                totals.count(Event::Refusal);
                 let refusal = e.refusal();
                 return println!(rt, "  at {start}: {refusal}");
             }
         };
         let written = &out[0..size];
-        totals.key(written == read);
+        totals.count(Event::Key);
+        if written == read {
+            totals.count(Event::WrittenAsRead);
+        }
         let bytes = Hex(written);
         match key {
             Key::Block(_) => {
@@ -101,13 +109,13 @@ impl<D: Digest> Dump<D> {
         let relation = match self.last {
             None => "the first",
             Some(last) => {
-                let answer = key.compare(&last);
-                totals.comparison(answer);
-                match answer {
-                    Ordering::Less => "less than the one before",
-                    Ordering::Equal => "equal to the one before",
-                    Ordering::Greater => "greater than the one before",
-                }
+                let (event, relation) = match key.compare(&last) {
+                    Ordering::Less => (Event::Less, "less than the one before"),
+                    Ordering::Equal => (Event::Equal, "equal to the one before"),
+                    Ordering::Greater => (Event::Greater, "greater than the one before"),
+                };
+                totals.count(event);
+                relation
             }
         };
         self.last = Some(key);

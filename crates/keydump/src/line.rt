@@ -1,5 +1,6 @@
 //! The form of an input line: a digest type, a space, and the bytes of keys in hexadecimal digits.
 ghost use mathlib.Core.Path.{_≡_};
+ghost use mathlib.Core.List.{List};
 ghost use Prim.Native.Nat.{ℕ, _+_, _*_, _<_};
 ghost use lib.ListN.{length, getD};
 ghost use Rattle.std.specs.Of.Vec.{vec-items};
@@ -7,9 +8,12 @@ ghost use Rattle.std.specs.Options.{Cases as BySome};
 ghost use Rattle.std.specs.Results.{Cases};
 ghost use Rattle.keydump.specs.declared.line.LineError.the-variants.{NoMemory};
 ghost use Rattle.keydump.specs.Hexadecimal.{HexDigit, Spells, NotSpelled};
+ghost use Rattle.keydump.specs.Lines.{HasDigits, IsLine, NotLine};
 use std::alloc::Global;
 use std::alloc::Refused;
 use std::fmt;
+
+const SPACE: u8 = b' ';
 
 #[derive(Clone, Copy)]
 pub enum DigestType {
@@ -96,16 +100,23 @@ fn decode(heap: Global, text: &[u8], column: usize) -> Result<Vec<u8>, LineError
 }
 
 /// What stands behind the name of a digest type: nothing, or a space and the digits.
-fn behind<'a>(text: &'a [u8], name: &[u8]) -> Option<&'a [u8]> {
-    match text.strip_prefix(name)? {
-        [] => Some(&[]),
-        [b' ', digits @ ..] => Some(digits),
-        _ => None,
+fn behind<'a>(text: &'a [u8], name: &[u8]) -> Option<&'a [u8]>
+    ensures { λ r. ⌜ BySome r ((digits : List ℕ) → HasDigits (now (name .entry)) (now (text .entry)) digits → ⊥) (λ digits. HasDigits (now (name .entry)) (now (text .entry)) (now digits)) ⌝ }
+{
+    let rest = text.strip_prefix(name)?;
+    if rest.is_empty() {
+        return Some(rest);
     }
+    if rest[0] != SPACE {
+        return None;
+    }
+    Some(&rest[1..])
 }
 
 /// A line without its ending.
-pub fn parse(heap: Global, text: &[u8]) -> Result<Line, LineError> {
+pub fn parse(heap: Global, text: &[u8]) -> Result<Line, LineError>
+    ensures { λ r. ⌜ Cases r (λ line. IsLine (now (text .entry)) line) (λ e. NotLine (now (text .entry)) e) ⌝ }
+{
     if text.is_empty() || text[0] == b'#' {
         return Ok(Line::Skipped);
     }

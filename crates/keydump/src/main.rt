@@ -16,6 +16,7 @@ use order::U64Order;
 use std::error::AnyError;
 use std::io::BufRead;
 use std::io::BufReader;
+use totals::Event;
 use totals::Totals;
 use totals::TotalsDisplay;
 
@@ -39,7 +40,7 @@ fn run(rt: &LibcRuntime) -> Result<(), AnyError> {
                 u64s.keys(rt, bytes.as_slice(), &mut totals)?;
             }
             Err(e) => {
-                totals.bad_line();
+                totals.count(Event::BadLine);
                 println!(rt, "line {number}: bad line: {e}")?;
             }
         }
