@@ -22,8 +22,8 @@ pub impl TotalOrder for [u8; 32] as Bytes32Order {
     ghost less = { lexLess };
 
     fn compare(&self, other: &[u8; 32]) -> Ordering {
-        for i in 0..32 {
-            match self[i].compare(&other[i]) {
+        for place in 0..32 {
+            match self[place].compare(&other[place]) {
                 Ordering::Equal => {}
                 first => return first,
             }
