@@ -1,12 +1,11 @@
 //! Digests: values of a fixed number of bytes.
 ghost use mathlib.Core.Path.{_≡_};
-ghost use mathlib.Core.List.{List, _++_};
+ghost use mathlib.Core.List.{List};
 ghost use Prim.Native.Nat.{ℕ, _<_, _≤_};
-ghost use lib.ListN.{length, take, drop};
+ghost use lib.ListN.{length, take};
 ghost use Rattle.order.specs.Orders.{lexLess};
 ghost use Rattle.std.specs.Options.{Cases as BySome};
-ghost use Rattle.std.specs.Results.{Cases};
-ghost use Rattle.refusals.specs.Refusals.{refusal, bytesNeeded, refusalOf};
+ghost use Rattle.refusals.specs.Refusals.{Writes};
 
 mod bytes32;
 mod number;
@@ -49,5 +48,5 @@ pub trait Digest: TotalOrder + Copy {
 
     /// Writes the digest at the front of `out`, and answers how many bytes that took.
     fn write(&self, out: &mut [u8]) -> Result<usize, WriteError>
-        ensures { λ r. ⌜ Cases r (λ k. (k ≡ length (image (now (self .entry)))) × (k ≤ length (now (out .entry))) × (now (out .exit) ≡ image (now (self .entry)) ++ drop k (now (out .entry)))) (λ e. (refusalOf e ≡ refusal 5 (bytesNeeded (length (image (now (self .entry)))))) × (length (now (out .entry)) < length (image (now (self .entry)))) × (now (out .exit) ≡ now (out .entry))) ⌝ };
+        ensures { λ r. ⌜ Writes (image (now (self .entry))) (now (out .entry)) (now (out .exit)) r ⌝ };
 }

@@ -21,7 +21,8 @@ use Rattle.keys.specs.declared.key.Key.the-variants as key
 use Rattle.keys.specs.declared.key_ref.KeyRef.{KeyRef}
 use Rattle.keys.specs.declared.key_ref.KeyRef.the-variants.{Block, Finalized, Notarized}
 use Rattle.keys.specs.Keys.{keyBytes, ValidKey, KeyAt}
-use Rattle.keys.specs.Borrowed.{refBytes, Borrows, Views, Copies}
+use Rattle.keys.specs.Borrowed.{Borrows, Views, Copies}
+use Rattle.keys.specs.Reading.{Walks}
 use Rattle.keys.specs.Refusals.{refusalOf, Refuses}
 use Rattle.keys.proofs.Alone.{fronts, first, after, same-height, same-round, two-numbers, block-stands, height-stands, round-stands, not-refused, one-refusal}
 
@@ -30,11 +31,6 @@ pub borrow-stands : (size : ℕ) (bs : List ℕ) (b : KeyRef) (rest : List ℕ) 
 borrow-stands size bs (Block part) rest r f h = block-stands size bs (now part) rest (r .front) (r .shown .1) f h
 borrow-stands size bs (Finalized g) rest r f h = height-stands size bs (g .0) rest (r .front) (r .shown) f h
 borrow-stands size bs (Notarized q) rest r f h = round-stands size bs (q .epoch .0) (q .view .0) rest (r .front) (r .shown) f h
-
--- the walk over a key at place i of bs, which ended at place z
-abbrev pub Walked : ℕ → List ℕ → ℕ → ℕ → Result KeyRef ReadError → Type 0
-Walked size bs i z r =
-    Cases r (λ k. Borrows size (drop i bs) k (drop z bs) × (z ≡ i + length (refBytes k)) × (z ≤ length bs)) (λ e. (z ≡ i) × Refuses size (drop i bs) (refusalOf e))
 
 module _ {D : Type 0} (image : D → List ℕ) (size : ℕ) (valid : D → Type 0) (long : (d : D) → valid d → length (image d) ≡ size)
     (one : (a b : D) → valid a → valid b → image a ≡ image b → a ≡ b) where
@@ -72,12 +68,12 @@ module _ {D : Type 0} (image : D → List ℕ) (size : ℕ) (valid : D → Type 
       at bs (key.Notarized y) rest (r .front ∙ ap (λ (h : Round). keyBytes image (key.Notarized h) ++ rest) (sym c))
       (subst (λ (h : Round). (h .epoch .0 < 2 ^ 64) × (h .view .0 < 2 ^ 64)) (sym c) (r .shown))
 
-  pub walk-accepts : (bs : List ℕ) (i z : ℕ) (r : Result KeyRef ReadError) → Walked size bs i z r → (k : Key D) (s : List ℕ) → ValidKey valid k → drop i bs ≡ keyBytes image k ++ s
+  pub walk-accepts : (bs : List ℕ) (i z : ℕ) (r : Result KeyRef ReadError) → Walks size bs i z r → (k : Key D) (s : List ℕ) → ValidKey valid k → drop i bs ≡ keyBytes image k ++ s
       → Cases r (λ b. Views image b k × (drop z bs ≡ s)) (λ _. ⊥)
   walk-accepts bs i z (Ok b) w k s v e = views (drop i bs) b (drop z bs) (w .0) k s v e
   walk-accepts bs i z (Err f) w k s v e = not-refused image size valid long one (drop i bs) (refusalOf f) (w .1) k s v e
 
-  pub walk-refuses : (bs : List ℕ) (i z : ℕ) (r : Result KeyRef ReadError) → Walked size bs i z r → (f : Refusal Location) → Refuses size (drop i bs) f
+  pub walk-refuses : (bs : List ℕ) (i z : ℕ) (r : Result KeyRef ReadError) → Walks size bs i z r → (f : Refusal Location) → Refuses size (drop i bs) f
       → Cases r (λ _. ⊥) (λ e. refusalOf e ≡ f)
   walk-refuses bs i z (Ok b) w f h = borrow-stands size (drop i bs) b (drop z bs) (w .0) f h
   walk-refuses bs i z (Err e) w f h = one-refusal size (drop i bs) (refusalOf e) f (w .1) h

@@ -1,4 +1,5 @@
 pub mod Keys
 pub mod Refusals
 pub mod Borrowed
+pub mod Reading
 pub mod Readers

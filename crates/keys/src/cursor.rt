@@ -11,11 +11,8 @@ ghost use Rattle.leb128.specs.Refusals.{Refuses as NumberRefuses};
 ghost use Rattle.keys.specs.declared.error.Layer.the-variants as layer;
 ghost use Rattle.keys.specs.declared.error.Field.the-variants as field;
 ghost use Rattle.keys.specs.declared.error.Location.the-variants.{InField};
-ghost use Rattle.refusals.specs.declared.Refusal.{Refusal};
-ghost use Rattle.keys.specs.declared.error.Location.{Location};
-ghost use Rattle.keys.specs.Keys.{keyBytes, ValidKey, KeyAt};
-ghost use Rattle.keys.specs.Borrowed.{refBytes, Borrows, Views};
-ghost use Rattle.keys.specs.Refusals.{refusalOf, Refuses};
+ghost use Rattle.keys.specs.Reading.{Walks, Reads, Moves, Accepts, ViewsOnly, RefusesOnly};
+ghost use Rattle.keys.specs.Refusals.{refusalOf};
 use crate::error::Field;
 use crate::error::Layer;
 use crate::error::ReadError;
@@ -118,7 +115,7 @@ impl Cursor {
 
     /// The key at the cursor, whose digest is `size` bytes of `bytes`. A refusal leaves the cursor where it was.
     pub(crate) fn next<'b>(&mut self, bytes: &'b [u8], size: usize) -> Result<KeyRef<'b>, ReadError>
-        ensures { λ r. ⌜ Cases r (λ k. Borrows size (drop (now (self .entry) .place) (now (bytes .entry))) k (drop (now (self .exit) .place) (now (bytes .entry))) × (now (self .exit) .place ≡ now (self .entry) .place + length (refBytes k)) × (now (self .exit) .place ≤ length (now (bytes .entry)))) (λ e. (now (self .exit) .place ≡ now (self .entry) .place) × Refuses size (drop (now (self .entry) .place) (now (bytes .entry))) (refusalOf e)) ⌝ }
+        ensures { λ r. ⌜ Walks size (now (bytes .entry)) (now (self .entry) .place) (now (self .exit) .place) r ⌝ }
     {
         let start = self.place;
         let mut guard = Rewind {
@@ -155,9 +152,9 @@ impl Cursor {
 
     /// As `next`, with a digest of the type `D`; also says that no other answer would do.
     pub(crate) fn read<'b, D: Digest>(&mut self, bytes: &'b [u8]) -> Result<KeyRef<'b>, ReadError>
-        ensures reads { λ r. ⌜ Cases r (λ k. Borrows (D·Digest .size) (drop (now (self .entry) .place) (now (bytes .entry))) k (drop (now (self .exit) .place) (now (bytes .entry))) × (now (self .exit) .place ≡ now (self .entry) .place + length (refBytes k)) × (now (self .exit) .place ≤ length (now (bytes .entry)))) (λ e. (now (self .exit) .place ≡ now (self .entry) .place) × Refuses (D·Digest .size) (drop (now (self .entry) .place) (now (bytes .entry))) (refusalOf e)) ⌝ }
-        ensures accepts { λ r. ⌜ ((k : Key D) (s : List ℕ) → ValidKey (D·Digest .valid) k → drop (now (self .entry) .place) (now (bytes .entry)) ≡ keyBytes (D·Digest .image) k ++ s → Cases r (λ b. Views (D·Digest .image) b k × (drop (now (self .exit) .place) (now (bytes .entry)) ≡ s)) (λ _. ⊥)) ⌝ }
-        ensures refuses { λ r. ⌜ ((f : Refusal Location) → Refuses (D·Digest .size) (drop (now (self .entry) .place) (now (bytes .entry))) f → Cases r (λ _. ⊥) (λ e. refusalOf e ≡ f)) ⌝ }
+        ensures reads { λ r. ⌜ Walks (D·Digest .size) (now (bytes .entry)) (now (self .entry) .place) (now (self .exit) .place) r ⌝ }
+        ensures accepts { λ r. ⌜ ViewsOnly (D·Digest .image) (D·Digest .valid) (drop (now (self .entry) .place) (now (bytes .entry))) (λ b. b) (λ _. drop (now (self .exit) .place) (now (bytes .entry))) r ⌝ }
+        ensures refuses { λ r. ⌜ RefusesOnly (D·Digest .size) (drop (now (self .entry) .place) (now (bytes .entry))) r ⌝ }
     {
         self.next(bytes, D::size())
     }
@@ -168,9 +165,10 @@ impl Cursor {
         bytes: &[u8],
         key: &mut Key<D>,
     ) -> Result<(), ReadError>
-        ensures reads { λ r. ⌜ Cases r (λ _. KeyAt (D·Digest .image) (D·Digest .valid) (drop (now (self .entry) .place) (now (bytes .entry))) (now (key .exit)) (drop (now (self .exit) .place) (now (bytes .entry))) × (now (self .exit) .place ≡ now (self .entry) .place + length (keyBytes (D·Digest .image) (now (key .exit)))) × (now (self .exit) .place ≤ length (now (bytes .entry)))) (λ e. (now (key .exit) ≡ now (key .entry)) × (now (self .exit) .place ≡ now (self .entry) .place) × Refuses (D·Digest .size) (drop (now (self .entry) .place) (now (bytes .entry))) (refusalOf e)) ⌝ }
-        ensures accepts { λ r. ⌜ ((k : Key D) (s : List ℕ) → ValidKey (D·Digest .valid) k → drop (now (self .entry) .place) (now (bytes .entry)) ≡ keyBytes (D·Digest .image) k ++ s → Cases r (λ _. (now (key .exit) ≡ k) × (drop (now (self .exit) .place) (now (bytes .entry)) ≡ s)) (λ _. ⊥)) ⌝ }
-        ensures refuses { λ r. ⌜ ((f : Refusal Location) → Refuses (D·Digest .size) (drop (now (self .entry) .place) (now (bytes .entry))) f → Cases r (λ _. ⊥) (λ e. refusalOf e ≡ f)) ⌝ }
+        ensures reads { λ r. ⌜ Reads (D·Digest .image) (D·Digest .size) (D·Digest .valid) (drop (now (self .entry) .place) (now (bytes .entry))) (now (key .entry)) (now (key .exit)) (λ _. drop (now (self .exit) .place) (now (bytes .entry))) r ⌝ }
+        ensures place { λ r. ⌜ Moves (D·Digest .image) (now (key .exit)) (length (now (bytes .entry))) (now (self .entry) .place) (now (self .exit) .place) r ⌝ }
+        ensures accepts { λ r. ⌜ Accepts (D·Digest .image) (D·Digest .valid) (drop (now (self .entry) .place) (now (bytes .entry))) (now (key .exit)) (λ _. drop (now (self .exit) .place) (now (bytes .entry))) r ⌝ }
+        ensures refuses { λ r. ⌜ RefusesOnly (D·Digest .size) (drop (now (self .entry) .place) (now (bytes .entry))) r ⌝ }
     {
         let borrowed = self.read::<D>(bytes)?;
         *key = borrowed.to_key()?;

@@ -4,12 +4,10 @@ ghost use mathlib.Core.List.{List, _++_};
 ghost use Prim.Native.Nat.{ℕ, _+_, _^_, _<_, _≤_};
 ghost use lib.ListN.{length, drop};
 ghost use Rattle.std.specs.Results.{Cases};
-ghost use Rattle.refusals.specs.declared.Refusal.{Refusal};
-ghost use Rattle.refusals.specs.Refusals.{refusal, bytesNeeded, refusalOf as writeRefusalOf};
+ghost use Rattle.refusals.specs.Refusals.{Writes};
 ghost use Rattle.leb128.specs.Unsigned.{encode};
-ghost use Rattle.keys.specs.declared.error.Location.{Location};
-ghost use Rattle.keys.specs.Keys.{tagOf, contentBytes, keyBytes, keyLess, ValidKey, KeyAt, Alone};
-ghost use Rattle.keys.specs.Refusals.{refusalOf, Refuses};
+ghost use Rattle.keys.specs.Keys.{tagOf, contentBytes, keyBytes, keyLess, ValidKey, Alone};
+ghost use Rattle.keys.specs.Reading.{Reads, Accepts, RefusesOnly};
 use crate::cursor::Cursor;
 use crate::error::ReadError;
 use digests::Digest;
@@ -62,9 +60,9 @@ fn write_round(round: Round, out: &mut [u8]) -> Result<usize, WriteError>
 impl<D: Digest> Key<D> {
     /// Reads the key at the front of `bytes` into `key`, and answers the rest of `bytes`. A refusal leaves `key` as it was.
     pub fn read<'a>(bytes: &'a [u8], key: &mut Key<D>) -> Result<&'a [u8], ReadError>
-        ensures reads { λ r. ⌜ Cases r (λ rest. KeyAt (D·Digest .image) (D·Digest .valid) (now (bytes .entry)) (now (key .exit)) (now rest)) (λ e. (now (key .exit) ≡ now (key .entry)) × Refuses (D·Digest .size) (now (bytes .entry)) (refusalOf e)) ⌝ }
-        ensures accepts { λ r. ⌜ ((k : Key D) (s : List ℕ) → ValidKey (D·Digest .valid) k → now (bytes .entry) ≡ keyBytes (D·Digest .image) k ++ s → Cases r (λ rest. (now (key .exit) ≡ k) × (now rest ≡ s)) (λ _. ⊥)) ⌝ }
-        ensures refuses { λ r. ⌜ ((f : Refusal Location) → Refuses (D·Digest .size) (now (bytes .entry)) f → Cases r (λ _. ⊥) (λ e. refusalOf e ≡ f)) ⌝ }
+        ensures reads { λ r. ⌜ Reads (D·Digest .image) (D·Digest .size) (D·Digest .valid) (now (bytes .entry)) (now (key .entry)) (now (key .exit)) (λ rest. now rest) r ⌝ }
+        ensures accepts { λ r. ⌜ Accepts (D·Digest .image) (D·Digest .valid) (now (bytes .entry)) (now (key .exit)) (λ rest. now rest) r ⌝ }
+        ensures refuses { λ r. ⌜ RefusesOnly (D·Digest .size) (now (bytes .entry)) r ⌝ }
     {
         let mut cursor = Cursor { place: 0 };
         cursor.read_key(bytes, key)?;
@@ -108,7 +106,7 @@ impl<D: Digest> Key<D> {
     /// Writes the key at the front of `out`, and answers how many bytes that took. Where `out` is too short for the
     /// whole key, nothing is written.
     pub fn write(&self, out: &mut [u8]) -> Result<usize, WriteError>
-        ensures writes { λ r. ⌜ Cases r (λ k. (k ≡ length (keyBytes (D·Digest .image) (now (self .entry)))) × (k ≤ length (now (out .entry))) × (now (out .exit) ≡ keyBytes (D·Digest .image) (now (self .entry)) ++ drop k (now (out .entry)))) (λ e. (writeRefusalOf e ≡ refusal 5 (bytesNeeded (length (keyBytes (D·Digest .image) (now (self .entry)))))) × (length (now (out .entry)) < length (keyBytes (D·Digest .image) (now (self .entry)))) × (now (out .exit) ≡ now (out .entry))) ⌝ }
+        ensures writes { λ r. ⌜ Writes (keyBytes (D·Digest .image) (now (self .entry))) (now (out .entry)) (now (out .exit)) r ⌝ }
         ensures one { λ _. ⌜ Alone (D·Digest .image) (D·Digest .valid) (now (self .entry)) ⌝ }
     {
         let needed = self.encode_size();

@@ -1,12 +1,7 @@
 //! Keys that borrow their digest.
-ghost use mathlib.Core.Path.{_≡_};
-ghost use mathlib.Core.List.{List, _++_};
-ghost use Prim.Native.Nat.{ℕ};
 ghost use Rattle.std.specs.Results.{Cases};
-ghost use Rattle.refusals.specs.declared.Refusal.{Refusal};
-ghost use Rattle.keys.specs.declared.error.Location.{Location};
-ghost use Rattle.keys.specs.Keys.{keyBytes, ValidKey};
-ghost use Rattle.keys.specs.Borrowed.{Borrows, Views, Copies, TooShort};
+ghost use Rattle.keys.specs.Borrowed.{Borrows, Copies, TooShort};
+ghost use Rattle.keys.specs.Reading.{ViewsOnly, RefusesOnly};
 ghost use Rattle.keys.specs.Refusals.{refusalOf, Refuses};
 use crate::cursor::Cursor;
 use crate::error::Field;
@@ -30,8 +25,8 @@ impl<'a> KeyRef<'a> {
     /// The key at the front of `bytes`, whose digest is a `D`, and the rest of `bytes`.
     pub fn read<D: Digest>(bytes: &'a [u8]) -> Result<(KeyRef<'a>, &'a [u8]), ReadError>
         ensures reads { λ r. ⌜ Cases r (λ p. Borrows (D·Digest .size) (now (bytes .entry)) (p .0) (now (p .1))) (λ e. Refuses (D·Digest .size) (now (bytes .entry)) (refusalOf e)) ⌝ }
-        ensures accepts { λ r. ⌜ ((k : Key D) (rest : List ℕ) → ValidKey (D·Digest .valid) k → now (bytes .entry) ≡ keyBytes (D·Digest .image) k ++ rest → Cases r (λ p. Views (D·Digest .image) (p .0) k × (now (p .1) ≡ rest)) (λ _. ⊥)) ⌝ }
-        ensures refuses { λ r. ⌜ ((f : Refusal Location) → Refuses (D·Digest .size) (now (bytes .entry)) f → Cases r (λ _. ⊥) (λ e. refusalOf e ≡ f)) ⌝ }
+        ensures accepts { λ r. ⌜ ViewsOnly (D·Digest .image) (D·Digest .valid) (now (bytes .entry)) (λ p. p .0) (λ p. now (p .1)) r ⌝ }
+        ensures refuses { λ r. ⌜ RefusesOnly (D·Digest .size) (now (bytes .entry)) r ⌝ }
     {
         let mut cursor = Cursor { place: 0 };
         let key = cursor.read::<D>(bytes)?;

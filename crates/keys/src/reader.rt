@@ -1,15 +1,10 @@
 //! A reader over many keys in one buffer.
 ghost use mathlib.Core.Path.{_≡_};
-ghost use mathlib.Core.List.{List, _++_};
-ghost use Prim.Native.Nat.{ℕ, _+_, _<_, _≤_};
-ghost use lib.ListN.{length, drop};
+ghost use Prim.Native.Nat.{_<_, _≤_};
+ghost use lib.ListN.{length};
 ghost use Rattle.std.specs.Orderings.{When};
-ghost use Rattle.std.specs.Results.{Cases};
-ghost use Rattle.refusals.specs.declared.Refusal.{Refusal};
-ghost use Rattle.keys.specs.declared.error.Location.{Location};
-ghost use Rattle.keys.specs.Keys.{keyBytes, ValidKey, KeyAt};
 ghost use Rattle.keys.specs.Readers.{remaining};
-ghost use Rattle.keys.specs.Refusals.{refusalOf, Refuses};
+ghost use Rattle.keys.specs.Reading.{Reads, Moves, Accepts, RefusesOnly};
 use crate::cursor::Cursor;
 use crate::error::ReadError;
 use crate::key::Key;
@@ -47,10 +42,11 @@ impl<'a> Reader<'a> {
 
     /// Reads the next key into `key`. A refusal leaves `key` and the reader as they were.
     pub fn next<D: Digest>(&mut self, key: &mut Key<D>) -> Result<(), ReadError>
-        ensures reads { λ r. ⌜ Cases r (λ _. KeyAt (D·Digest .image) (D·Digest .valid) (remaining (now (self .entry))) (now (key .exit)) (remaining (now (self .exit))) × (now (self .exit) .cursor .place ≡ now (self .entry) .cursor .place + length (keyBytes (D·Digest .image) (now (key .exit)))) × (now (self .exit) .cursor .place ≤ length (now (now (self .entry) .bytes)))) (λ e. (now (key .exit) ≡ now (key .entry)) × (now (self .exit) .cursor .place ≡ now (self .entry) .cursor .place) × Refuses (D·Digest .size) (remaining (now (self .entry))) (refusalOf e)) ⌝ }
+        ensures reads { λ r. ⌜ Reads (D·Digest .image) (D·Digest .size) (D·Digest .valid) (remaining (now (self .entry))) (now (key .entry)) (now (key .exit)) (λ _. remaining (now (self .exit))) r ⌝ }
+        ensures place { λ r. ⌜ Moves (D·Digest .image) (now (key .exit)) (length (now (now (self .entry) .bytes))) (now (self .entry) .cursor .place) (now (self .exit) .cursor .place) r ⌝ }
         ensures bytes { λ _. ⌜ now (now (self .exit) .bytes) ≡ now (now (self .entry) .bytes) ⌝ }
-        ensures accepts { λ r. ⌜ ((k : Key D) (s : List ℕ) → ValidKey (D·Digest .valid) k → remaining (now (self .entry)) ≡ keyBytes (D·Digest .image) k ++ s → Cases r (λ _. (now (key .exit) ≡ k) × (remaining (now (self .exit)) ≡ s)) (λ _. ⊥)) ⌝ }
-        ensures refuses { λ r. ⌜ ((f : Refusal Location) → Refuses (D·Digest .size) (remaining (now (self .entry))) f → Cases r (λ _. ⊥) (λ e. refusalOf e ≡ f)) ⌝ }
+        ensures accepts { λ r. ⌜ Accepts (D·Digest .image) (D·Digest .valid) (remaining (now (self .entry))) (now (key .exit)) (λ _. remaining (now (self .exit))) r ⌝ }
+        ensures refuses { λ r. ⌜ RefusesOnly (D·Digest .size) (remaining (now (self .entry))) r ⌝ }
     {
         let bytes = self.bytes;
         self.cursor.read_key(bytes, key)

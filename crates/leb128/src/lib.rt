@@ -4,7 +4,7 @@ ghost use mathlib.Core.List.{List, _++_};
 ghost use Prim.Native.Nat.{ℕ, _^_, _<_, _≤_};
 ghost use lib.ListN.{length, drop};
 ghost use Rattle.std.specs.Results.{Cases};
-ghost use Rattle.refusals.specs.Refusals.{refusal, bytesNeeded, refusalOf as writeRefusalOf};
+ghost use Rattle.refusals.specs.Refusals.{refusal, Writes};
 ghost use Rattle.leb128.specs.Unsigned.{encode, Accepted, OneEncoding};
 ghost use Rattle.leb128.specs.Refusals.{refusalOf, Refuses};
 use refusals::Refusal;
@@ -110,7 +110,7 @@ fn put(n: u64, out: &mut [u8])
 
 /// Writes `n` at the front of `out`, and answers how many bytes that took.
 pub fn write(n: u64, out: &mut [u8]) -> Result<usize, WriteError>
-    ensures writes { λ r. ⌜ Cases r (λ k. (k ≡ length (encode n)) × (k ≤ length (now (out .entry))) × (now (out .exit) ≡ encode n ++ drop k (now (out .entry)))) (λ e. (writeRefusalOf e ≡ refusal 5 (bytesNeeded (length (encode n)))) × (length (now (out .entry)) < length (encode n)) × (now (out .exit) ≡ now (out .entry))) ⌝ }
+    ensures writes { λ r. ⌜ Writes (encode n) (now (out .entry)) (now (out .exit)) r ⌝ }
     ensures one { λ _. ⌜ OneEncoding n (encode n) ⌝ }
 {
     let needed = encode_size(n);

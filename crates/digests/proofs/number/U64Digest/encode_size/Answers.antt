@@ -1,7 +1,6 @@
-use mathlib.Core.Path.{refl}
 use native.Mathlib.Omega.{arith}
 use Rattle.digests.proofs.EightBytes.{big-endian-order}
 use Rattle.digests.proofs.number.U64Digest.encode_size.Needs as need
 
 pub returns : need.returns
-returns c = record { value = refl; holds = omega arith; order = big-endian-order }
+returns c = record { value = omega arith; holds = omega arith; order = big-endian-order }

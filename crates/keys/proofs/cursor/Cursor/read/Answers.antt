@@ -1,7 +1,8 @@
 use mathlib.Core.Path.{_≡_, subst}
 use mathlib.Core.List.{List}
 use Prim.Native.Nat.{ℕ}
-use Rattle.keys.proofs.Copied.{Walked, walk-accepts, walk-refuses}
+use Rattle.keys.specs.Reading.{Walks}
+use Rattle.keys.proofs.Copied.{walk-accepts, walk-refuses}
 use Rattle.keys.proofs.cursor.Cursor.read.Needs as need
 
 pub returns : need.returns
@@ -11,7 +12,7 @@ returns g c =
     let bs : List ℕ = c .args .bytes .now in
     let i : ℕ = c .args .self .now .place in
     let z : ℕ = c .next .last .self .place in
-    let w : Walked (m .size) bs i z (c .next .result) = subst (λ (n : ℕ). Walked n bs i z (c .next .result)) (c .size .ensures) (c .next .ensures) in
+    let w : Walks (m .size) bs i z (c .next .result) = subst (λ (n : ℕ). Walks n bs i z (c .next .result)) (c .size .ensures) (c .next .ensures) in
     record {
       reads = w;
       accepts = walk-accepts (m .image) (m .size) (m .valid) (law .long) (law .one) bs i z (c .next .result) w;

@@ -21,7 +21,8 @@ returns g c =
     let a = copied (m .image) (m .size) (m .valid) (law .long) (law .one) bs (c .in-Continue-borrowed .borrowed) rest (b .0) k (c .in-Continue-key .ensures tt) in
     let f = ap length (sym (b .0 .front) ∙ a .front) in
     record {
-      reads = (a, omega (arith, f, length-append (refBytes (c .in-Continue-borrowed .borrowed)) rest, length-append (keyBytes (m .image) k) rest, b .1), b .2);
+      reads = a;
+      place = (omega (arith, f, length-append (refBytes (c .in-Continue-borrowed .borrowed)) rest, length-append (keyBytes (m .image) k) rest, b .1), b .2);
       accepts = λ j s w e. alone (m .image) (m .size) (m .valid) (law .long) (law .one) k (a .holds) j rest s w (sym (a .front) ∙ e);
       refuses = λ f h. not-refused (m .image) (m .size) (m .valid) (law .long) (law .one) bs f h k rest (a .holds) (a .front);
     }
