@@ -98,27 +98,37 @@ impl<D: Digest> Dump<D> {
             totals.count(Event::WrittenAsRead);
         }
         let bytes = Hex(written);
+        let digest = Hex(&written[1..]);
+        let relation = self.relation(key, totals);
         match key {
-            Key::Block(_) => {
-                let digest = Hex(&written[1..]);
-                print!(rt, "  at {start}: {bytes} Block({digest})")?;
+            Key::Block(_) => println!(rt, "  at {start}: {bytes} Block({digest}), {relation}"),
+            Key::Finalized { height } => {
+                println!(rt, "  at {start}: {bytes} Finalized({height}), {relation}")
             }
-            Key::Finalized { height } => print!(rt, "  at {start}: {bytes} Finalized({height})")?,
-            Key::Notarized { round } => print!(rt, "  at {start}: {bytes} Notarized{round}")?,
+            Key::Notarized { round } => {
+                println!(rt, "  at {start}: {bytes} Notarized{round}, {relation}")
+            }
         }
-        let relation = match self.last {
-            None => "the first",
-            Some(last) => {
-                let (event, relation) = match key.compare(&last) {
-                    Ordering::Less => (Event::Less, "less than the one before"),
-                    Ordering::Equal => (Event::Equal, "equal to the one before"),
-                    Ordering::Greater => (Event::Greater, "greater than the one before"),
-                };
-                totals.count(event);
-                relation
-            }
+    }
+
+    /// How a key compares with the last one, whose place it takes.
+    fn relation(&mut self, key: Key<D>, totals: &mut Totals) -> &'static str {
+        let Some(last) = self.last.replace(key) else {
+            return "the first";
         };
-        self.last = Some(key);
-        println!(rt, ", {relation}")
+        match key.compare(&last) {
+            Ordering::Less => {
+                totals.count(Event::Less);
+                "less than the one before"
+            }
+            Ordering::Equal => {
+                totals.count(Event::Equal);
+                "equal to the one before"
+            }
+            Ordering::Greater => {
+                totals.count(Event::Greater);
+                "greater than the one before"
+            }
+        }
     }
 }

@@ -16,7 +16,10 @@ ghost use Rattle.keys.specs.Refusals.{refusalOf};
 use crate::error::Field;
 use crate::error::Layer;
 use crate::error::ReadError;
+use crate::key::BLOCK_REQUEST;
+use crate::key::FINALIZED_REQUEST;
 use crate::key::Key;
+use crate::key::NOTARIZED_REQUEST;
 use crate::key_ref::KeyRef;
 use digests::Digest;
 use types::Epoch;
@@ -124,18 +127,18 @@ impl Cursor {
             complete: false,
         };
         match guard.cursor.take_tag(bytes)? {
-            0 => {
+            BLOCK_REQUEST => {
                 let part = guard.cursor.take_digest(bytes, size, start)?;
                 guard.complete = true;
                 Ok(KeyRef::Block(part))
             }
-            1 => {
+            FINALIZED_REQUEST => {
                 let height = guard.cursor.take_number(bytes, Field::Height, start)?;
                 guard.complete = true;
                 let height = Height::new(height);
                 Ok(KeyRef::Finalized { height })
             }
-            2 => {
+            NOTARIZED_REQUEST => {
                 let epoch = guard.cursor.take_number(bytes, Field::Epoch, start)?;
                 let view = guard.cursor.take_number(bytes, Field::View, start)?;
                 guard.complete = true;

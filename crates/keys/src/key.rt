@@ -22,11 +22,12 @@ use types::Round;
 use types::RoundEquality;
 use types::RoundOrder;
 
-const BLOCK_REQUEST: u8 = 0;
+/// The tags.
+pub(crate) const BLOCK_REQUEST: u8 = 0;
 
-const FINALIZED_REQUEST: u8 = 1;
+pub(crate) const FINALIZED_REQUEST: u8 = 1;
 
-const NOTARIZED_REQUEST: u8 = 2;
+pub(crate) const NOTARIZED_REQUEST: u8 = 2;
 
 /// What a resolver is asked for.
 #[derive(Clone, Copy)]
