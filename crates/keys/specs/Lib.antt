@@ -3,3 +3,4 @@ pub mod Refusals
 pub mod Borrowed
 pub mod Reading
 pub mod Readers
+pub mod Texts

@@ -5,7 +5,9 @@ ghost use Rattle.refusals.specs.Refusals.{refusal};
 ghost use Rattle.leb128.specs.Refusals.{refusalOf as numberRefusalOf};
 ghost use Rattle.keys.specs.declared.error.Layer.the-variants as layer;
 ghost use Rattle.keys.specs.declared.error.Location.the-variants.{InField};
+ghost use Rattle.std.specs.declared.option.Option.the-variants.{Some};
 ghost use Rattle.keys.specs.Refusals.{refusalOf};
+ghost use Rattle.keys.specs.Texts.{layerText, fieldText, locationText};
 use leb128::NumberError;
 use refusals::Refusal;
 use std::fmt;
@@ -20,6 +22,8 @@ pub enum Layer {
 }
 
 pub impl fmt::Display for Layer as LayerDisplay {
+    ghost shown = { λ x. Some (layerText x) };
+
     fn fmt<W: fmt::Write>(&self, f: &mut fmt::Formatter<W>) -> fmt::Result {
         let name = match self {
             Layer::Number => "number",
@@ -39,6 +43,8 @@ pub enum Field {
 }
 
 pub impl fmt::Display for Field as FieldDisplay {
+    ghost shown = { λ x. Some (fieldText x) };
+
     fn fmt<W: fmt::Write>(&self, f: &mut fmt::Formatter<W>) -> fmt::Result {
         let name = match self {
             Field::Tag => "tag",
@@ -96,6 +102,8 @@ pub enum Location {
 }
 
 pub impl fmt::Display for Location as LocationDisplay {
+    ghost shown = { λ x. Some (locationText x) };
+
     fn fmt<W: fmt::Write>(&self, f: &mut fmt::Formatter<W>) -> fmt::Result {
         match *self {
             Location::InField {

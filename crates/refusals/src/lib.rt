@@ -1,5 +1,10 @@
 //! How a refusal is told: by a number of its own, and by the values that it hands back.
 ghost use mathlib.Core.Path.{_≡_};
+ghost use mathlib.Core.List.{_++_};
+ghost use lib.Chars.{codes};
+ghost use Rattle.std.specs.Options.{mapped};
+ghost use Rattle.std.specs.Written.{decimal};
+ghost use Rattle.std.specs.declared.option.Option.the-variants.{Some};
 ghost use Rattle.refusals.specs.Refusals.{refusalOf};
 use std::fmt;
 
@@ -12,6 +17,8 @@ pub struct Refusal<V> {
 }
 
 pub impl<V: fmt::Display> fmt::Display for Refusal<V> as RefusalDisplay {
+    ghost shown = { λ x. mapped (λ text. codes "refusal " ++ (decimal (x .number) ++ (codes ": " ++ text))) (V·Display .shown (x .values)) };
+
     fn fmt<W: fmt::Write>(&self, f: &mut fmt::Formatter<W>) -> fmt::Result {
         let number = self.number;
         let values = &self.values;
@@ -31,6 +38,8 @@ pub enum WriteError {
 pub struct BytesNeeded(pub usize);
 
 pub impl fmt::Display for BytesNeeded as BytesNeededDisplay {
+    ghost shown = { λ x. Some (decimal (x .0) ++ codes " bytes needed") };
+
     fn fmt<W: fmt::Write>(&self, f: &mut fmt::Formatter<W>) -> fmt::Result {
         let bytes = self.0;
         write!(f, "{bytes} bytes needed")

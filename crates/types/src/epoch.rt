@@ -1,6 +1,8 @@
 //! Epochs.
 ghost use lib.Dec.{ltb};
 ghost use mathlib.Core.Path.{_≡_};
+ghost use Rattle.std.specs.Written.{decimal};
+ghost use Rattle.std.specs.declared.option.Option.the-variants.{Some};
 use order::Equality;
 use order::TotalOrder;
 use order::U64Equality;
@@ -41,6 +43,8 @@ pub impl TotalOrder for Epoch as EpochOrder {
 }
 
 pub impl fmt::Display for Epoch as EpochDisplay {
+    ghost shown = { λ x. Some (decimal (x .0)) };
+
     fn fmt<W: fmt::Write>(&self, f: &mut fmt::Formatter<W>) -> fmt::Result {
         let value = self.get();
         write!(f, "{value}")

@@ -1,5 +1,9 @@
 //! Rounds.
 ghost use mathlib.Core.Path.{_≡_};
+ghost use mathlib.Core.List.{_++_};
+ghost use lib.Chars.{codes};
+ghost use Rattle.std.specs.Written.{decimal};
+ghost use Rattle.std.specs.declared.option.Option.the-variants.{Some};
 ghost use Rattle.types.specs.Rounds.{roundLess};
 use crate::epoch::Epoch;
 use crate::epoch::EpochDisplay;
@@ -60,6 +64,8 @@ pub impl TotalOrder for Round as RoundOrder {
 }
 
 pub impl fmt::Display for Round as RoundDisplay {
+    ghost shown = { λ x. Some (codes "(" ++ (decimal (x .epoch .0) ++ (codes ", " ++ (decimal (x .view .0) ++ codes ")")))) };
+
     fn fmt<W: fmt::Write>(&self, f: &mut fmt::Formatter<W>) -> fmt::Result {
         let epoch = self.epoch;
         let view = self.view;
