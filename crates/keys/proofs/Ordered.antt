@@ -4,38 +4,16 @@ use mathlib.Core.Bool.{Bool, true, false}
 use Prim.Native.Nat.{ℕ}
 use native.Mathlib.Omega.{arith}
 use lib.Dec.{ltb}
-use Rattle.std.proofs.shelf.Tests.{false≢true, ltb-true, ltb-false, lt-ltb, le-ltb}
+use Rattle.std.proofs.shelf.Tests.{false≢true}
 use Rattle.order.specs.Orders.{Total}
-use Rattle.order.proofs.Totals.{asymmetric, connected, pair-total, total-from, total-by, tagged-total}
-use Rattle.types.specs.declared.epoch.Epoch.{Epoch}
+use Rattle.order.proofs.Totals.{asymmetric, connected, tagged-total}
+use Rattle.types.proofs.Ordered.{height-total, round-total}
 use Rattle.types.specs.declared.height.Height.{Height}
-use Rattle.types.specs.declared.view.View.{View}
 use Rattle.types.specs.declared.round.Round.{Round}
 use Rattle.types.specs.Rounds.{roundLess}
 use Rattle.keys.specs.declared.key.Key.{Key}
 use Rattle.keys.specs.declared.key.Key.the-variants.{Block, Finalized, Notarized}
 use Rattle.keys.specs.Keys.{tagOf, contentLess, keyLess}
-
-number-total : Total ltb
-number-total =
-    total-from ltb (λ a b h. le-ltb b a (omega (arith, ltb-true a b h))) (λ a b h k. omega (arith, ltb-false a b h, ltb-false b a k))
-    (λ a b c h k. lt-ltb a c (omega (arith, ltb-true a b h, ltb-true b c k)))
-
-height-total : Total (λ (a b : Height). ltb (a .0) (b .0))
-height-total = total-by (λ (a : Height). a .0) (λ a b e. ap (λ (n : ℕ). of n) e) number-total
-  where
-    of : ℕ → Height
-    of n = record { 0 = n }
-
--- a round is its two numbers
-abbrev numbers : Round → ℕ × ℕ
-numbers r = (r .epoch .0, r .view .0)
-
-abbrev roundOf : ℕ × ℕ → Round
-roundOf p = record { epoch = record { 0 = p .0 }; view = record { 0 = p .1 } }
-
-round-total : Total roundLess
-round-total = total-by numbers (λ a b e. ap roundOf e) (pair-total number-total number-total)
 
 module _ {D : Type 0} {less : D → D → Bool} (t : Total less) where
   asym : (a b : Key D) → contentLess less a b ≡ true → contentLess less b a ≡ false

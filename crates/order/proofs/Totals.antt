@@ -5,7 +5,7 @@ use mathlib.Core.Logic.{_⊎_, inl, inr}
 use Prim.Native.Nat.{ℕ, _<_}
 use native.Mathlib.Omega.{arith}
 use lib.Dec.{eqb, ltb}
-use Rattle.std.proofs.shelf.Tests.{cases-bool, cases-eq, cases-order, eq-eqb, ne-eqb, ltb-true, lt-ltb, le-ltb, both-ways, or-cases, or-left, or-right, and-from, and-parts, not-true, not-from-false}
+use Rattle.std.proofs.shelf.Tests.{cases-bool, cases-eq, cases-order, eq-eqb, ne-eqb, ltb-true, ltb-false, lt-ltb, le-ltb, both-ways, or-cases, or-left, or-right, and-from, and-parts, not-true, not-from-false}
 use Rattle.order.specs.Orders.{Total, ExactlyOne, pairLess}
 
 module _ {X : Type 0} {less : X → X → Bool} (t : Total less) where
@@ -178,3 +178,8 @@ module _ {X : Type 0} (tag : X → ℕ) (content : X → X → Bool) (asym : (a 
   pub tagged-total : Total (λ (a b : X). cond (eqb (tag a) (tag b)) (content a b) (ltb (tag a) (tag b)))
   unfolding less
   tagged-total = total-from less tagged-asym tagged-conn tagged-trans
+
+pub number-total : Total ltb
+number-total =
+    total-from ltb (λ a b h. le-ltb b a (omega (arith, ltb-true a b h))) (λ a b h k. omega (arith, ltb-false a b h, ltb-false b a k))
+    (λ a b c h k. lt-ltb a c (omega (arith, ltb-true a b h, ltb-true b c k)))

@@ -1,0 +1,3 @@
+pub mod Annotations
+pub mod Floors
+pub mod Requests
