@@ -1,3 +1,4 @@
 pub mod Numbers
 pub mod Refused
 pub mod Encodings
+pub mod Reading

@@ -53,14 +53,6 @@ pub fn read(bytes: &[u8]) -> Result<(u64, &[u8]), NumberError>
     ensures accepts { λ r. ⌜ ((n : ℕ) (code rest : List ℕ) → n < 2 ^ 64 → Accepted code n → now (bytes .entry) ≡ code ++ rest → Cases r (λ p. (p .0 ≡ n) × (now (p .1) ≡ rest)) (λ _. ⊥)) ⌝ }
     ensures refuses { λ r. ⌜ ((m p : ℕ) → Refuses (now (bytes .entry)) (refusal m p) → Cases r (λ _. ⊥) (λ e. refusalOf e ≡ refusal m p)) ⌝ }
 {
-    scan(bytes)
-}
-
-/// What `read` does; `read` also says that nothing else would do.
-fn scan(bytes: &[u8]) -> Result<(u64, &[u8]), NumberError>
-    ensures fits { λ r. ⌜ Cases r (λ p. p .0 < 2 ^ 64) (λ _. Unit {0}) ⌝ }
-    ensures reads { λ r. ⌜ Cases r (λ p. now (bytes .entry) ≡ encode (p .0) ++ now (p .1)) (λ e. Refuses (now (bytes .entry)) (refusalOf e)) ⌝ }
-{
     let mut n = 0u64;
     for (i, b) in bytes.iter().enumerate() {
         let b = *b;
