@@ -1,4 +1,6 @@
 //! Equality and order as interfaces: what a row of targets needs, and what an ordered table needs.
+#![tactic(auto)]
+
 ghost use Rattle.std.specs.Prelude.{◌≡◌, Bool, MatchBool, ◌≢◌};
 ghost use Rattle.order.specs.Orders.{Total};
 ghost use Rattle.order.specs.Comparisons.{Compares};

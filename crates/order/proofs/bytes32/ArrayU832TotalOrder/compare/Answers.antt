@@ -9,6 +9,6 @@ returns c = same_whole c.loop-place.place c.args.self.now c.args.other.now c.loo
 pub loop-place-preserved : goal.loop-place-preserved
 loop-place-preserved c = take_more_same c.args.self.now c.args.other.now c.loop-place.place 0 (search rules) (search rules) c.loop-place.invariant c.in-Equal.ensures
 
-pub returns-in-default : goal.returns-in-default
-returns-in-default c =
-    compares_at c.loop-place.place c.args.self.now c.args.other.now c.compare.result c.loop-place.invariant (search rules) (search rules) c.in-default.not-Equal c.compare.ensures
+pub returns-in_default : goal.returns-in_default
+returns-in_default c =
+    compares_at c.loop-place.place c.args.self.now c.args.other.now c.compare.result c.loop-place.invariant (search rules) (search rules) c.in_default.not-Equal c.compare.ensures
