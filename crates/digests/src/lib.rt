@@ -1,4 +1,6 @@
 //! Digests: values of a fixed number of bytes.
+#![tactic(auto)]
+
 ghost use Rattle.std.specs.Prelude.{◌≡◌, ℕ, ◌<◌, ◌≤◌, List, length, take, MatchOption};
 ghost use Rattle.order.specs.Orders.{lex_less};
 ghost use Rattle.refusals.specs.Refusals.{Writes};

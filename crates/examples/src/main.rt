@@ -1,4 +1,6 @@
 //! Runs the unsigned examples of DWARF 5's table of LEB128 encodings, and the worked examples.
+#![tactic(auto)]
+
 use anyhow::anyhow;
 use keys::Key;
 use std::io;

@@ -1,4 +1,6 @@
 //! How fast keys are written and read: with a count as its argument it prints rates, without one only what does not vary.
+#![tactic(auto)]
+
 ghost use Rattle.std.specs.Prelude.{◌≡◌, ◌≤◌, length, IfOk};
 
 use anyhow::anyhow;

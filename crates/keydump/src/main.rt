@@ -1,4 +1,6 @@
 //! Reads lines of encoded resolver keys, writes each key again, compares it with the one before, and prints what was done.
+#![tactic(auto)]
+
 mod dump;
 mod line;
 mod totals;

@@ -1,4 +1,6 @@
 //! Resolver keys: read, written and compared.
+#![tactic(auto)]
+
 mod cursor;
 mod error;
 mod key;

@@ -1,4 +1,6 @@
 //! Unsigned LEB128 in shortest form, for numbers of 64 bits.
+#![tactic(auto)]
+
 ghost use Rattle.std.specs.Prelude.{◌≡◌, ℕ, ◌^◌, ◌<◌, ◌≤◌, List, ◌++◌, length, drop, MatchResult};
 ghost use Rattle.refusals.specs.Refusals.{refusal, Writes};
 ghost use Rattle.leb128.specs.Unsigned.{encode, Accepted, OneEncoding};

@@ -1,4 +1,6 @@
 //! Memory that a caller lends, checked before anything is made of it.
+#![tactic(auto)]
+
 ghost use Rattle.std.specs.Prelude.{◌≡◌, length, Some, codes, MatchResult};
 ghost use Rattle.refusals.specs.Refusals.{refusal};
 ghost use Rattle.memory.specs.Memories.{Fits, refusal_of, nothing};

@@ -1,4 +1,6 @@
 //! One queue for every kind of element, in memory that the caller lends.
+#![tactic(auto)]
+
 ghost use Rattle.std.specs.Prelude.{◌≡◌, false, [], ◌∷◌, ◌++◌, length, is_some, is_ok, if◌then◌else◌, fold, filter, MatchOption, ◌==◌, nat_lt};
 ghost use Rattle.std.specs.Option.{option_to_list};
 ghost use Rattle.std.specs.List.{slice_get};

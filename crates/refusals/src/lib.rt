@@ -1,4 +1,6 @@
 //! How a refusal is told: by a number of its own, and by the values that it hands back.
+#![tactic(auto)]
+
 ghost use Rattle.std.specs.Prelude.{◌≡◌, ◌++◌, Some, codes, decimal};
 ghost use Rattle.std.specs.Option.{option_map};
 ghost use Rattle.refusals.specs.Refusals.{refusal_of};

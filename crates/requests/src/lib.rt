@@ -1,4 +1,6 @@
 //! What the marshal fetches through the resolver, and which of it a floor leaves standing.
+#![tactic(auto)]
+
 mod annotation;
 mod floor;
 mod request;

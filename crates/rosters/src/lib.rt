@@ -1,4 +1,6 @@
 //! Rosters: who has left. A requester is a number of 32 bits.
+#![tactic(auto)]
+
 ghost use Rattle.std.specs.Prelude.{◌≡◌, ℕ, Bool};
 
 mod bits;

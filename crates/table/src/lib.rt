@@ -1,4 +1,6 @@
 //! The one ordered table, in memory that a caller lends.
+#![tactic(auto)]
+
 ghost use Rattle.std.specs.Prelude.{◌≡◌, ◌+◌, ◌<◌, ◌≤◌, [], length, take, fold, filter, ◌==◌};
 ghost use Rattle.std.specs.List.{slice_get};
 ghost use Rattle.memory.specs.Sweeps.{retained, Steady};

@@ -1,4 +1,6 @@
 //! Epochs, heights, views, rounds and cutoffs.
+#![tactic(auto)]
+
 mod cutoff;
 mod epoch;
 mod height;

@@ -1,4 +1,6 @@
 //! The worked examples of the formats and the rules, run and proved.
+#![tactic(auto)]
+
 ghost use Rattle.std.specs.Prelude.{◌≡◌, ℕ, ◌^◌, ◌<◌, ◌≤◌, true, false, List, [], ◌∷◌, length, drop, Some, MatchResult, slice_set};
 ghost use Rattle.refusals.specs.declared.Refusal.{Refusal as RefusalOf};
 ghost use Rattle.digests.specs.BigEndian.{big_endian};
