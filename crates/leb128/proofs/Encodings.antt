@@ -1,9 +1,9 @@
 -- `encode` is DWARF's encoding. Assumes nothing.
-use Rattle.std.proofs.Common.{◌≡◌, ℕ, zero, suc, ◌+◌, ◌-◌, ◌*◌, ◌/◌, ◌%◌, ◌^◌, ◌<◌, ◌≤◌, ◌⊎◌, List, [], ◌∷◌, ◌++◌, length, get_or, take, drop, sym, refl, ap, ◌∙◌, subst, inl, inr, arith}
+use Rattle.std.proofs.Common.{◌≡◌, ℕ, zero, suc, ◌+◌, ◌-◌, ◌*◌, ◌/◌, ◌%◌, ◌<◌, ◌≤◌, List, [], ◌∷◌, ◌++◌, length, get_or, take, sym, ap, ◌∙◌, subst, inl, inr, arith}
 use Rattle.std.proofs.lemmas.Bool.{cases_lt}
 use Rattle.std.proofs.lemmas.List.{take_all, take_more, length-take-le, get_or-take}
 use Rattle.leb128.specs.Unsigned.{Continues, encode, value_of, Encoding, Unpadded, Accepted, OneEncoding}
-use Rattle.leb128.proofs.Numbers.{Shape, shape, Going, encode_last, encode_more, encode_value, value_cons, length-encode_last, length-encode_more, encode_bytes}
+use Rattle.leb128.proofs.Numbers.{shape, Going, encode_last, encode_more, encode_value, value_cons, length-encode_last, length-encode_more, encode_bytes}
 
 encodes : (n : ℕ) → Encoding (encode n)
 encodes n =

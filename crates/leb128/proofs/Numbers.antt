@@ -1,8 +1,8 @@
 -- Laws of the encoding of numbers. Assumes nothing.
-use Rattle.std.proofs.Common.{◌≡◌, ℕ, zero, suc, ◌+◌, ◌-◌, ◌*◌, ◌/◌, ◌%◌, ◌^◌, ◌<◌, ◌≤◌, Bool, true, false, cond, ltb, ◌⊎◌, List, [], ◌∷◌, ◌++◌, length, get_or, take, drop, sym, refl, ap, ◌∙◌, subst, inl, inr, ⊎_elim, suc-le-suc, add-zero, add_assoc, mul_assoc, mul_comm, add-mul, zero-add, mul-add, arith, pow-add}
+use Rattle.std.proofs.Common.{◌≡◌, ℕ, zero, suc, ◌+◌, ◌*◌, ◌/◌, ◌%◌, ◌^◌, ◌<◌, ◌≤◌, true, false, ltb, List, [], ◌∷◌, ◌++◌, length, get_or, take, drop, sym, refl, ap, ◌∙◌, subst, inl, inr, suc-le-suc, mul_assoc, mul_comm, add-mul, zero-add, arith, pow-add}
 use Rattle.std.proofs.lemmas.Bool.{cases_lt, lt-ltb, le-ltb}
-use Rattle.std.proofs.lemmas.Nat.{shl_whole, shl_below, pow_pos}
-use Rattle.std.proofs.lemmas.List.{take_more, take-append-drop, append_assoc, get_or-take, length-take-le}
+use Rattle.std.proofs.lemmas.Nat.{shl_whole}
+use Rattle.std.proofs.lemmas.List.{take_more, take-append-drop, get_or-take, length-take-le}
 use Rattle.leb128.specs.Unsigned.{sum_from, value_of, Continues, encode_by, encode}
 
 -- 2 ^ (7 * (i + 1)) is 128 times 2 ^ (7 * i)

@@ -1,14 +1,14 @@
 -- What a search found, and what an edit in the place that it answers does. Assumes nothing.
-use Rattle.std.proofs.Common.{◌≡◌, ℕ, suc, ◌+◌, ◌<◌, Bool, List, [], ◌∷◌, ◌++◌, length, get_or, take, drop, set, sym, refl, ap, ◌∙◌, subst, arith}
+use Rattle.std.proofs.Common.{◌≡◌, ℕ, suc, ◌+◌, ◌<◌, Bool, List, ◌∷◌, ◌++◌, length, get_or, take, drop, set, sym, ap, ◌∙◌, subst, arith}
 use Rattle.std.specs.List.{insert, remove}
 use Rattle.std.proofs.lemmas.List.{get_or_at, set_at, take_at, drop_at, drop-drop, set_split}
 use Rattle.order.specs.Orders.{Total}
 use Rattle.table.specs.declared.Entry.{Entry}
-use Rattle.table.specs.Maps.{entry_of, Sole, Absent, Assigned, Without}
-use Rattle.table.specs.Orders.{Rising, Around}
+use Rattle.table.specs.Maps.{entry_of, Sole, Assigned, Without}
+use Rattle.table.specs.Orders.{Rising}
 use Rattle.table.specs.Searches.{Found, Missing}
 use Rattle.table.specs.Edits.{Replaced, Added, Dropped}
-use Rattle.table.proofs.Held.{absent_around, sole_around, without_around, assigned_new, assigned_over}
+use Rattle.table.proofs.Held.{sole_around, without_around, assigned_new, assigned_over}
 use Rattle.table.proofs.Ordered.{split_at, rising_around, rising_without, rising_with}
 
 module _ {X : Type 0} where

@@ -1,5 +1,5 @@
 -- What an insert and a remove do to the entries, as a list and as a map. Assumes nothing.
-use Rattle.std.specs.Prelude.{◌≡◌, ℕ, ◌+◌, ◌<◌, Bool, List, ◌∷◌, ◌++◌, length, Some, None, Ok, Err, Option, Result}
+use Rattle.std.specs.Prelude.{◌≡◌, ℕ, ◌<◌, Bool, List, ◌∷◌, ◌++◌, length, Some, None, Ok, Err, Option, Result}
 use Rattle.memory.specs.declared.Full.{Full}
 use Rattle.table.specs.declared.Entry.{Entry}
 use Rattle.table.specs.Maps.{entry_of, Absent, Sole, Assigned, Without}

@@ -1,4 +1,4 @@
-use Rattle.std.proofs.Common.{◌^◌, ◌<◌, arith}
+use Rattle.std.proofs.Common.{arith}
 use Rattle.leb128.proofs.Numbers.{length-encode_ten, length-encode_last, length-encode_more}
 use Rattle.leb128.proofs.encode_size.Goals as goal
 

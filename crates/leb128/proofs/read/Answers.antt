@@ -1,6 +1,6 @@
-use Rattle.std.proofs.Common.{◌≡◌, ℕ, ◌+◌, ◌-◌, ◌*◌, ◌%◌, ◌^◌, ◌<◌, ◌≤◌, List, ◌++◌, length, get_or, take, drop, sym, refl, ap, ◌∙◌, subst, inl, inr, arith, rules, below_more}
+use Rattle.std.proofs.Common.{◌≡◌, ℕ, ◌+◌, ◌-◌, ◌*◌, ◌%◌, ◌^◌, ◌<◌, ◌≤◌, List, ◌++◌, length, get_or, take, drop, sym, refl, ap, ◌∙◌, arith, rules, below_more}
 use Rattle.std.proofs.lemmas.List.{take_rest}
-use Rattle.leb128.specs.Unsigned.{value_of, Continues, encode}
+use Rattle.leb128.specs.Unsigned.{value_of, encode}
 use Rattle.refusals.specs.Refusals.{refusal}
 use Rattle.leb128.specs.Refusals.{Refuses, ends, tenth, padded}
 use Rattle.leb128.proofs.Reading.{number_read, number_only, number_stands, refused_number, refused_only}
@@ -22,13 +22,10 @@ under b n i a h t e f =
     let w : (a * 2 ^ (7 * i)) % 2 ^ 64 ≡ a * 2 ^ (7 * i) = shift_whole a i (omega arith) h u in
     omega (arith, w, sum_fits n a i e (omega arith) h u)
 
--- the tenth byte is at most 1
-low-tenth : (c : goal.After-from) → c.loop-i.i ≡ 9 → get_or c.args.bytes.now c.loop-i.i 0 ≤ 1
-low-tenth c q = search rules
-
-pub overflow-add-n : goal.overflow-add-n
-overflow-add-n c =
-    let h = under (get_or c.args.bytes.now c.loop-i.i 0) c.loop-i.n c.loop-i.i c.from.result c.loop-i.invariant.0 (low-tenth c) c.loop-i.invariant.3 c.from.ensures in
+pub overflow_add-n : goal.overflow_add-n
+overflow_add-n c =
+    let t : c.loop-i.i ≡ 9 → get_or c.args.bytes.now c.loop-i.i 0 ≤ 1 = λ q. search rules in
+    let h = under (get_or c.args.bytes.now c.loop-i.i 0) c.loop-i.n c.loop-i.i c.from.result c.loop-i.invariant.0 t c.loop-i.invariant.3 c.from.ensures in
     omega arith
 
 pub returns-then-b-lt-CONTINUATION : goal.returns-then-b-lt-CONTINUATION
@@ -38,7 +35,7 @@ returns-then-b-lt-CONTINUATION c =
     let t : i ≡ 9 → get_or bs i 0 ≤ 1 = λ q. search rules in
     let s : 0 < i → 0 < get_or bs i 0 = λ q. search rules in
     let j = joined bs c.loop-i.n i c.from.result c.loop-i.invariant.0 t c.loop-i.invariant.2 c.loop-i-test.true c.from.ensures in
-    let w : (k : ℕ) → k < i → (128 ≤ get_or bs k 0) × (get_or bs k 0 < 256) = λ k h. (c.loop-i.invariant.1 k h, omega (arith, c.ok.bytes k)) in
+    let w : (k : ℕ) → k < i → (128 ≤ get_or bs k 0) × (get_or bs k 0 < 256) = λ k h. (c.loop-i.invariant.1 k h, omega (arith, c.type_inv.bytes k)) in
     let m : ℕ = c.loop-i.n + (c.from.result * 2 ^ (7 * i)) % 2 ^ 64 in
     let u = under (get_or bs i 0) c.loop-i.n i c.from.result c.loop-i.invariant.0 t c.loop-i.invariant.3 c.from.ensures in
     let rest : List ℕ = take (length bs - (i + 1)) (drop (i + 1) bs) in
@@ -60,8 +57,8 @@ loop-i-preserved c =
       omega (arith, w, sum_below c.loop-i.n c.from.result i c.loop-i.invariant.3 (omega arith)),
     )
 
-pub returns-then-b-gt-TENTH-MAX : goal.returns-then-b-gt-TENTH-MAX
-returns-then-b-gt-TENTH-MAX c =
+pub returns-then-b-gt-TENTH_MAX : goal.returns-then-b-gt-TENTH_MAX
+returns-then-b-gt-TENTH_MAX c =
     let bs : List ℕ = c.args.bytes.now in
     let i : ℕ = c.loop-i.i in
     let h : Refuses bs (refusal 2 i) = tenth i (search rules) (search rules) c.loop-i.invariant.1 (search rules) in

@@ -1,6 +1,5 @@
-use Rattle.std.proofs.Common.{◌≡◌, ℕ, List, ◌++◌, length, drop, refl, ap, ◌∙◌, arith, rules}
+use Rattle.std.proofs.Common.{ℕ, refl, ap, arith}
 use Rattle.refusals.specs.Refusals.{refusal, bytes_needed}
-use Rattle.leb128.specs.Unsigned.{encode}
 use Rattle.leb128.proofs.Encodings.{one_encoding}
 use Rattle.leb128.proofs.write.Goals as goal
 

@@ -7,8 +7,8 @@ use Rattle.table.proofs.Edited.{found_removed, rising_removed}
 use Rattle.table.proofs.Slots.{row_inside, row_read, row_front, row_after, rest_after, room_after}
 use Rattle.table.proofs.Table.remove_at.Goals as goal
 
-pub offset-bounds-self-i : goal.offset-bounds-self-i
-offset-bounds-self-i g c =
+pub offset_bounds-self-i : goal.offset_bounds-self-i
+offset_bounds-self-i g c =
     let t = c.args.self.now in
     let h : c.args.i < length t.slots.now = row_inside t.slots.now t.size t.len c.args.i c.requires in
     search rules
@@ -16,8 +16,8 @@ offset-bounds-self-i g c =
 pub bounds-self-i : goal.bounds-self-i
 bounds-self-i g c = let t = c.args.self.now in row_inside t.slots.now t.size t.len c.args.i c.requires
 
-pub remove-at-requires : goal.remove-at-requires
-remove-at-requires g c =
+pub remove_at-requires : goal.remove_at-requires
+remove_at-requires g c =
     let t = c.args.self.now in
     let pre = c.requires in
     let n = length-take t.size t.slots.now in
@@ -27,7 +27,7 @@ pub returns : goal.returns
 returns g c =
     let t = c.args.self.now in
     let slots = t.slots.now in
-    let last = c.remove-at.new.row in
+    let last = c.remove_at.new.row in
     let m = c.len-len.result in
     let i = c.args.i in
     let d = c.index-self-i.result in
@@ -39,12 +39,12 @@ returns g c =
     let read = row_read slots t.size t.len i c.requires d in
     let was : take m slots ≡ items t = ap (λ n. take n slots) count ∙ row_front slots t.size t.len in
     let after : take (m - 1) (take t.size last) ≡ remove (items t) i =
-    row_after slots t.size last (m - 1) (omega arith) ∙ c.remove-at.ensures.value ∙ ap (λ xs. remove xs i) was in
+    row_after slots t.size last (m - 1) (omega arith) ∙ c.remove_at.ensures.value ∙ ap (λ xs. remove xs i) was in
     record {
       kept =
           record {
-            room = room_after slots t.size last c.remove-at.auto.row;
-            rest = rest_after slots t.size last m le c.remove-at.ensures.rest;
+            room = room_after slots t.size last c.remove_at.auto.row;
+            rest = rest_after slots t.size last m le c.remove_at.ensures.rest;
           };
       count = ap (λ xs. length xs + 1) after ∙ length-remove (items t) i c.requires;
       order = λ up. subst (Rising less) (sym after) (rising_removed less total (items t) i x d read c.requires up);

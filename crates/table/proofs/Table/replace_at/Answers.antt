@@ -1,4 +1,4 @@
-use Rattle.std.proofs.Common.{◌≡◌, ◌<◌, length, get_or, set, sym, ap, ◌∙◌, subst, arith, length-set, rules}
+use Rattle.std.proofs.Common.{◌<◌, length, get_or, set, sym, ap, ◌∙◌, subst, length-set, rules}
 use Rattle.table.specs.Maps.{entry_of}
 use Rattle.table.specs.Orders.{Rising}
 use Rattle.table.specs.Tables.{items}
@@ -6,8 +6,8 @@ use Rattle.table.proofs.Edited.{found_replaced, rising_replaced}
 use Rattle.table.proofs.Slots.{row_inside, row_read, row_set, rest_set, room_after}
 use Rattle.table.proofs.Table.replace_at.Goals as goal
 
-pub offset-bounds-self-i : goal.offset-bounds-self-i
-offset-bounds-self-i g c =
+pub offset_bounds-self-i : goal.offset_bounds-self-i
+offset_bounds-self-i g c =
     let t = c.args.self.now in
     let h : c.args.i < length t.slots.now = row_inside t.slots.now t.size t.len c.args.i c.requires in
     search rules
@@ -15,8 +15,8 @@ offset-bounds-self-i g c =
 pub bounds-self-i : goal.bounds-self-i
 bounds-self-i g c = let t = c.args.self.now in row_inside t.slots.now t.size t.len c.args.i c.requires
 
-pub offset-bounds-self-i-2 : goal.offset-bounds-self-i-2
-offset-bounds-self-i-2 g c =
+pub offset_bounds-self-i-2 : goal.offset_bounds-self-i-2
+offset_bounds-self-i-2 g c =
     let t = c.args.self.now in
     let h : c.args.i < length t.slots.now = row_inside t.slots.now t.size t.len c.args.i c.requires in
     search rules

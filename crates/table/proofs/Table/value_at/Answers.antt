@@ -1,4 +1,4 @@
-use Rattle.std.proofs.Common.{get_or, ap, ◌∙◌}
+use Rattle.std.proofs.Common.{get_or, ap}
 use Rattle.table.specs.Tables.{items}
 use Rattle.table.proofs.Edited.{found_sole}
 use Rattle.table.proofs.Table.value_at.Goals as goal

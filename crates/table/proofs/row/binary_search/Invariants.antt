@@ -1,4 +1,4 @@
-use Rattle.std.proofs.Common.{◌≡◌, ◌-◌, ◌≤◌, length, take, drop}
+use Rattle.std.proofs.Common.{◌-◌, ◌≤◌, length}
 use Rattle.table.specs.Orders.{Rising}
 use Rattle.table.proofs.Ordered.{Narrowed}
 use Rattle.table.proofs.row.binary_search.Given as goal

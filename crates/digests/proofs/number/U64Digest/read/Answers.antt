@@ -6,7 +6,7 @@ use Rattle.digests.proofs.number.U64Digest.read.Goals as goal
 pub returns : goal.returns
 returns c = (
   omega arith,
-  ap big_endian c.from-be-bytes.ensures ∙ big_endian-summed c.copy-from-slice.new.self c.copy-from-slice.ensures.len (take_bytes 8 c.args.bytes.now c.copy-from-slice.new.self c.copy-from-slice.ensures.after (λ k. omega (arith, c.type-inv.bytes k)))
-      ∙ c.copy-from-slice.ensures.after,
+  ap big_endian c.from_be_bytes.ensures ∙ big_endian-summed c.copy_from_slice.new.self c.copy_from_slice.ensures.len (take_bytes 8 c.args.bytes.now c.copy_from_slice.new.self c.copy_from_slice.ensures.after (λ k. omega (arith, c.type_inv.bytes k)))
+      ∙ c.copy_from_slice.ensures.after,
   omega arith,
 )
