@@ -7,4 +7,4 @@ use Rattle.rosters.proofs.present.is_on.Goals as goal
 pub returns : goal.returns
 returns c =
     let here = items c.args.present.now in
-    c.is-some.ensures ∙ lookup_among here here c.args.requester c.get.result (c.get.ensures (rising_holds ltb here c.requires))
+    c.is_some.ensures ∙ lookup_among here here c.args.requester c.get.result (c.get.ensures (rising_holds ltb here c.requires))

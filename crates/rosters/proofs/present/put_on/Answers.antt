@@ -15,7 +15,7 @@ returns-in-Ok c =
     let up = rising_holds ltb before c.requires in
     let e = c.in-Ok.ensures in
     record {
-      enters = subst (λ n. Enters place (absent before) (absent after) c.args.requester n) (sym c.new-to.ensures) (enters_inserted before after c.args.requester _ c.in-Ok.old (e.value up));
+      enters = subst (λ n. Enters place (absent before) (absent after) c.args.requester n) (sym c.new_to.ensures) (enters_inserted before after c.args.requester _ c.in-Ok.old (e.value up));
       rising = rising_tested ltb _ (e.order up);
       kept = e.kept;
     }

@@ -11,14 +11,14 @@ returns g c =
     let m = g.D.Digest in
     let law = g.met.D.Digest in
     let bs : List ℕ = drop c.args.self.now.place c.args.bytes.now in
-    let k = c.in-ok-key.field-0 in
+    let k = c.in_ok-key.field-0 in
     let rest : List ℕ = drop c.read.new.self.place c.args.bytes.now in
-    let b = c.in-ok-borrowed.ensures.reads in
-    let a = copied m.image m.size m.valid law.long law.one bs c.in-ok-borrowed.borrowed rest b.0 k c.in-ok-key.ensures in
+    let b = c.in_ok-borrowed.ensures.reads in
+    let a = copied m.image m.size m.valid law.long law.one bs c.in_ok-borrowed.borrowed rest b.0 k c.in_ok-key.ensures in
     let f = ap length (sym b.0.front ∙ a.front) in
     record {
       reads = a;
-      place = (omega (arith, f, length-append (ref_bytes c.in-ok-borrowed.borrowed) rest, length-append (key_bytes m.image k) rest, b.1), b.2);
+      place = (omega (arith, f, length-append (ref_bytes c.in_ok-borrowed.borrowed) rest, length-append (key_bytes m.image k) rest, b.1), b.2);
       accepts = λ j s w e. alone m.image m.size m.valid law.long law.one k a.holds j rest s w (sym a.front ∙ e);
       refuses = λ f h. not_refused m.image m.size m.valid law.long law.one bs f h k rest a.holds a.front;
     }

@@ -6,11 +6,11 @@ use Rattle.leb128.proofs.Refused.{refused_early}
 use Rattle.keys.proofs.Walking.{long, moved}
 use Rattle.keys.proofs.cursor.Cursor.take_number.Goals as goal
 
-pub overflow-sub-self : goal.overflow-sub-self
-overflow-sub-self c = omega (arith, long c.args.bytes.now (encode c.in-Ok.n) c.in-Ok.rest.now c.args.self.now.place c.requires.1 c.in-Ok.ensures.reads.1)
+pub overflow_sub-self : goal.overflow_sub-self
+overflow_sub-self c = omega (arith, long c.args.bytes.now (encode c.in-Ok.n) c.in-Ok.rest.now c.args.self.now.place c.requires.1 c.in-Ok.ensures.reads.1)
 
-pub in-number-requires : goal.in-number-requires
-in-number-requires c = omega (arith, refused_early _ (number_refusal_of c.in-Err.fault) c.in-Err.ensures.reads)
+pub in_number-requires : goal.in_number-requires
+in_number-requires c = omega (arith, refused_early _ (number_refusal_of c.in-Err.fault) c.in-Err.ensures.reads)
 
 pub returns-in-Ok : goal.returns-in-Ok
 returns-in-Ok c =
