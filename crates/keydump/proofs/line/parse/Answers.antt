@@ -11,4 +11,4 @@ each text a b Bytes32 d h = a d h
 each text a b U64 d h = b d h
 
 pub returns : goal.returns
-returns c = each c.args.text.now c.in-default.ensures c.in-default-behind.ensures
+returns c = each c.args.text.now c.in_default.ensures c.in_default-behind.ensures
