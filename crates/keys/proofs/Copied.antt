@@ -1,8 +1,7 @@
 -- A borrowed key is a view of one key only, and its copy is that key. Assumes nothing.
-use Rattle.std.proofs.Common.{◌≡◌, ℕ, ◌+◌, ◌^◌, ◌<◌, ◌≤◌, List, [], ◌∷◌, ◌++◌, length, take, drop, Ok, Err, Result, sym, refl, ap, ◌∙◌, subst, arith, MatchResult}
+use Rattle.std.proofs.Common.{◌≡◌, ℕ, ◌^◌, ◌<◌, List, ◌∷◌, ◌++◌, length, drop, Ok, Err, Result, sym, refl, ap, ◌∙◌, subst, arith, MatchResult}
 use Rattle.std.proofs.lemmas.List.{drop_at, take_all}
 use Rattle.refusals.specs.declared.Refusal.{Refusal}
-use Rattle.leb128.specs.Unsigned.{encode}
 use Rattle.leb128.proofs.Refused.{one_number}
 use Rattle.types.specs.declared.height.Height.{Height}
 use Rattle.types.specs.declared.round.Round.{Round}

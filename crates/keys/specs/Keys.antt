@@ -1,8 +1,6 @@
 -- The bytes of a key, and the order of keys. Assumes nothing.
-use Rattle.std.specs.Prelude.{◌≡◌, ℕ, ◌^◌, ◌<◌, Bool, true, false, cond, List, [], ◌∷◌, ◌++◌, length, drop, ◌==◌, nat_lt}
+use Rattle.std.specs.Prelude.{◌≡◌, ℕ, ◌^◌, ◌<◌, Bool, false, cond, List, ◌∷◌, ◌++◌, length, drop, ◌==◌, nat_lt}
 use Rattle.leb128.specs.Unsigned.{encode}
-use Rattle.types.specs.declared.height.Height.{Height}
-use Rattle.types.specs.declared.round.Round.{Round}
 use Rattle.types.specs.Rounds.{round_less}
 use Rattle.keys.specs.declared.key.Key.{Key}
 use Rattle.keys.specs.declared.key.Key.TheVariants.{Block, Finalized, Notarized}

@@ -1,13 +1,10 @@
 -- Keys are in a total order. Assumes nothing.
-use Rattle.std.specs.Prelude.{◌≡◌, ℕ, Bool, true, false, ltb, refl}
-use Rattle.std.proofs.Common.{sym, ap, ◌∙◌, arith}
+use Rattle.std.specs.Prelude.{◌≡◌, Bool, true, false, refl}
+use Rattle.std.proofs.Common.{ap, arith}
 use Rattle.std.proofs.lemmas.Bool.{false≢true}
 use Rattle.order.specs.Orders.{Total}
 use Rattle.order.specs.Totals.{asymmetric, connected, tagged_total}
 use Rattle.types.proofs.Ordered.{height_total, round_total}
-use Rattle.types.specs.declared.height.Height.{Height}
-use Rattle.types.specs.declared.round.Round.{Round}
-use Rattle.types.specs.Rounds.{round_less}
 use Rattle.keys.specs.declared.key.Key.{Key}
 use Rattle.keys.specs.declared.key.Key.TheVariants.{Block, Finalized, Notarized}
 use Rattle.keys.specs.Keys.{tag_of, content_less, key_less}

@@ -1,7 +1,7 @@
 -- Laws of a ring, whatever its head and length are. Assumes nothing.
-use Rattle.std.proofs.Common.{◌≡◌, ℕ, ◌+◌, ◌-◌, ◌<◌, ◌≤◌, min, Bool, true, false, cond, ltb, List, [], ◌∷◌, ◌++◌, length, get_or, take, drop, set, Some, sym, refl, ap, ◌∙◌, subst, ⊎_elim, append_assoc, add-one, arith, length-append, length-drop, length-set, length-take}
+use Rattle.std.proofs.Common.{◌≡◌, ℕ, ◌+◌, ◌-◌, ◌<◌, ◌≤◌, min, false, ltb, List, [], ◌∷◌, ◌++◌, length, get_or, take, drop, set, Some, sym, refl, ap, ◌∙◌, ⊎_elim, append_assoc, add-one, arith, length-append, length-drop, length-set, length-take}
 use lib.Seq.{take-set-lt}
-use Rattle.std.proofs.lemmas.List.{drop-set-add, take-set-le, set-append_left, drop-set-lt, set-append_right, take_more_set, take_more, drop_more, take-append-le, get_or_append_left, get_or-append_right, get_or-drop, get_or-take, drop_all, take_all, append-nil, get_or-set_same, get_or_default}
+use Rattle.std.proofs.lemmas.List.{drop-set-add, take-set-le, set-append_left, drop-set-lt, set-append_right, take_more_set, take_more, drop_more, take-append-le, get_or_append_left, get_or-append_right, get_or-drop, get_or-take, drop_all, take_all, append-nil, get_or-set_same}
 use Rattle.std.proofs.lemmas.Bool.{cond_both, ltb-true, ltb-false, le-ltb, lt-ltb, cases_lt}
 use Rattle.std.specs.List.{slice_get}
 use Rattle.std.proofs.lemmas.Option.{slice_get-get_or}

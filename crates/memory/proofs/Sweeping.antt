@@ -1,12 +1,10 @@
 -- A sweep of a ring, entry by entry. Assumes nothing.
-use Rattle.std.proofs.Common.{◌≡◌, ℕ, ◌+◌, ◌<◌, ◌≤◌, min, Bool, true, false, cond, List, [], ◌∷◌, ◌++◌, length, get_or, take, drop, set, fold, filter, sym, refl, ap, ◌∙◌, subst, arith, length-set}
+use Rattle.std.proofs.Common.{◌≡◌, ℕ, ◌+◌, ◌<◌, ◌≤◌, Bool, true, false, cond, List, [], ◌∷◌, ◌++◌, length, get_or, take, drop, set, fold, filter, sym, refl, ap, ◌∙◌, arith, length-set}
 use lib.Seq.{take-set-lt}
 use Rattle.std.proofs.lemmas.List.{append-nil, get_or-drop, get_or_default, take_more, take_more_set, drop-set-lt, drop-drop}
 use Rattle.std.proofs.lemmas.List.Sums.{fold_more}
-use Rattle.std.proofs.lemmas.Bool.{cond_both, cond-true, cond-false}
-use Rattle.memory.specs.Rings.{turned, placed}
+use Rattle.std.proofs.lemmas.Bool.{cond-true, cond-false}
 use Rattle.memory.specs.Sweeps.{retained, Steady}
-use Rattle.memory.proofs.Rings.{length-turned, turned-set_any, turned_get_any}
 
 module _ {S X : Type 0} (passes : S → X → Bool) (noted : S → X → S) where
   -- one entry more goes by

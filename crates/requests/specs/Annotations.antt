@@ -1,7 +1,5 @@
 -- The order of annotations: by the case, in the order of the declaration, then by content. Assumes nothing.
-use Rattle.std.specs.Prelude.{ℕ, Bool, true, false, cond, ◌==◌, nat_lt}
-use Rattle.types.specs.declared.height.Height.{Height}
-use Rattle.types.specs.declared.round.Round.{Round}
+use Rattle.std.specs.Prelude.{ℕ, Bool, false, cond, ◌==◌, nat_lt}
 use Rattle.types.specs.Rounds.{round_less}
 use Rattle.requests.specs.declared.annotation.Finalized.{Finalized}
 use Rattle.requests.specs.declared.annotation.Finalized.TheVariants.{ByHeight, ByRound}

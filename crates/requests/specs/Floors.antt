@@ -6,7 +6,6 @@ use Rattle.types.specs.declared.round.Round.{Round}
 use Rattle.types.specs.Rounds.{Covers}
 use Rattle.keys.specs.declared.key.Key.{Key}
 use Rattle.keys.specs.declared.key.Key.TheVariants as key
-use Rattle.requests.specs.declared.annotation.Finalized.{Finalized}
 use Rattle.requests.specs.declared.annotation.Finalized.TheVariants.{ByHeight, ByRound}
 use Rattle.requests.specs.declared.annotation.Annotation.{Annotation}
 use Rattle.requests.specs.declared.annotation.Annotation.TheVariants as annotation

@@ -1,5 +1,5 @@
 -- One bit of a row is turned. Assumes nothing.
-use Rattle.std.proofs.Common.{◌≡◌, ℕ, zero, suc, ◌+◌, ◌-◌, ◌*◌, ◌/◌, ◌%◌, ◌^◌, ◌<◌, ◌≤◌, Bool, true, false, cond, not, eqb, List, length, get_or, set, sym, refl, ap, ◌∙◌, ⊎_elim, arith, pow-add}
+use Rattle.std.proofs.Common.{◌≡◌, ℕ, suc, ◌+◌, ◌-◌, ◌*◌, ◌/◌, ◌%◌, ◌^◌, ◌<◌, cond, not, eqb, List, length, get_or, set, sym, ap, ◌∙◌, ⊎_elim, arith, pow-add}
 use native.Mathlib.Nat.{div-eq_of_lt, mul-mod_left}
 use lib.Bits.{bit_xor, xor_zero_r, xor_shr, xor_mod}
 use Rattle.std.proofs.lemmas.Nat.{shl-shr, pow_below, div-add-mod'}

@@ -1,5 +1,5 @@
 -- Heights and rounds are in a total order. Assumes nothing.
-use Rattle.std.proofs.Common.{◌≡◌, ℕ, ltb, ap}
+use Rattle.std.proofs.Common.{ℕ, ltb, ap}
 use Rattle.order.specs.Orders.{Total}
 use Rattle.order.specs.Totals.{number_total, pair_total, total_by}
 use Rattle.types.specs.declared.height.Height.{Height}

@@ -1,5 +1,5 @@
 -- The order of rounds, and which rounds a cutoff covers. Assumes nothing.
-use Rattle.std.specs.Prelude.{◌≡◌, ℕ, ◌≤◌, Bool, true, ◌⊎◌, nat_lt}
+use Rattle.std.specs.Prelude.{◌≡◌, ◌≤◌, Bool, true, ◌⊎◌, nat_lt}
 use Rattle.order.specs.Orders.{pair_less}
 use Rattle.types.specs.declared.round.Round.{Round}
 use Rattle.types.specs.declared.cutoff.Cutoff.{Cutoff}

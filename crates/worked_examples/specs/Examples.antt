@@ -6,7 +6,6 @@ use Rattle.types.specs.declared.epoch.Epoch.{Epoch}
 use Rattle.types.specs.declared.round.Round.{Round}
 use Rattle.types.specs.declared.cutoff.Cutoff.TheVariants as cutoff
 use Rattle.types.specs.Rounds.{Covers}
-use Rattle.keys.specs.declared.key.Key.{Key}
 use Rattle.keys.specs.declared.key.Key.TheVariants.{Finalized, Notarized}
 use Rattle.keys.specs.declared.error.Layer.TheVariants as layer
 use Rattle.keys.specs.declared.error.Field.TheVariants as field

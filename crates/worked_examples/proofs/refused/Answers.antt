@@ -1,4 +1,3 @@
-use Rattle.std.proofs.Common.{◌≡◌, ℕ}
 use Rattle.digests.specs.BigEndian.{big_endian}
 use Rattle.worked_examples.proofs.Examples.{too_large, padded, unknown, nothing}
 use Rattle.worked_examples.proofs.refused.Goals as goal

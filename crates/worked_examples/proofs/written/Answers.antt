@@ -1,4 +1,4 @@
-use Rattle.std.proofs.Common.{◌≡◌, ℕ, List, ap, ◌∙◌, arith}
+use Rattle.std.proofs.Common.{ℕ, List, ap, ◌∙◌, arith}
 use Rattle.digests.specs.BigEndian.{big_endian}
 use Rattle.types.specs.declared.round.Round.{Round}
 use Rattle.keys.specs.declared.key.Key.{Key}

@@ -1,5 +1,5 @@
-use Rattle.std.proofs.Common.{◌≡◌, ◌+◌, ◌<◌, ◌≤◌, min, length, get_or, take, drop, set, fold, sym, refl, ap, ◌∙◌, subst, arith, length-take}
-use Rattle.memory.specs.Rings.{turned, around, placed}
+use Rattle.std.proofs.Common.{◌≡◌, ◌+◌, ◌<◌, min, length, get_or, take, set, fold, sym, ap, ◌∙◌, subst, arith, length-take}
+use Rattle.memory.specs.Rings.{turned, placed}
 use Rattle.memory.specs.Sweeps.{retained}
 use Rattle.memory.proofs.Rings.{length-turned, length-around_any, turned-set_any, turned_get_any, all_any}
 use Rattle.memory.proofs.Sweeping.{Sweeping, sweep_keeps, sweep_drops, retained_steady, front_set, front_get, behind_set}

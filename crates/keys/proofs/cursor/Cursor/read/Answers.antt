@@ -1,4 +1,4 @@
-use Rattle.std.proofs.Common.{◌≡◌, ℕ, List, subst}
+use Rattle.std.proofs.Common.{ℕ, List, subst}
 use Rattle.keys.specs.Reading.{Walks}
 use Rattle.keys.proofs.Copied.{walk_accepts, walk_refuses}
 use Rattle.keys.proofs.cursor.Cursor.read.Goals as goal

@@ -1,4 +1,4 @@
-use Rattle.std.proofs.Common.{◌≡◌, ℕ, List, refl, subst, arith}
+use Rattle.std.proofs.Common.{ℕ, List, subst, arith}
 use Rattle.std.proofs.lemmas.List.{take_rest}
 use Rattle.leb128.specs.Unsigned.{encode}
 use Rattle.leb128.specs.Refusals.{Refuses as NumberRefuses, refusal_of as number_refusal_of}
