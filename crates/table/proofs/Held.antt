@@ -1,6 +1,6 @@
 -- A list that a key parts, as a map. Assumes nothing.
 use Rattle.std.proofs.Common.{◌≡◌, zero, suc, ◌-◌, Bool, true, ◌⊎◌, List, ◌∷◌, ◌++◌, length, sym, refl, ap, ◌∙◌, subst, inl, inr, arith, length-append}
-use Rattle.std.specs.List.{ContainsAt as Has}
+use Rattle.std.specs.List.{ContainsAt}
 use Rattle.std.proofs.lemmas.List.{get_or_append_left, get_or-append_right}
 use Rattle.std.proofs.ByRecursion.{all-has, has_append_left, has_append_right}
 use Rattle.std.proofs.lemmas.Bool.{cases_lt, both_ways}
@@ -11,7 +11,7 @@ use Rattle.table.specs.Maps.{entry_of, Holds, Absent, Sole, Assigned, Without}
 use Rattle.table.specs.Orders.{Around}
 
 module _ {X : Type 0} where
-  has_cases : (xs ys : List X) (x : X) → Has (xs ++ ys) x → Has xs x ⊎ Has ys x
+  has_cases : (xs ys : List X) (x : X) → ContainsAt (xs ++ ys) x → ContainsAt xs x ⊎ ContainsAt ys x
   has_cases xs ys x (i, lt, at) =
       let n = length-append xs ys in
       elim (cases_lt i (length xs)) [
@@ -19,13 +19,13 @@ module _ {X : Type 0} where
         | inr l ↦ inr (i - length xs, omega arith, λ d. sym (get_or-append_right xs ys (length xs) i d refl l) ∙ at d)
       ]
 
-  has_first : (x : X) (xs : List X) → Has (x ∷ xs) x
+  has_first : (x : X) (xs : List X) → ContainsAt (x ∷ xs) x
   has_first x xs = (0, omega arith, λ d. refl)
 
-  has_behind : (y : X) (xs : List X) (x : X) → Has xs x → Has (y ∷ xs) x
+  has_behind : (y : X) (xs : List X) (x : X) → ContainsAt xs x → ContainsAt (y ∷ xs) x
   has_behind y xs x (i, lt, at) = (suc i, omega arith, at)
 
-  has_cons_cases : (y : X) (xs : List X) (x : X) → Has (y ∷ xs) x → (y ≡ x) ⊎ Has xs x
+  has_cons_cases : (y : X) (xs : List X) (x : X) → ContainsAt (y ∷ xs) x → (y ≡ x) ⊎ ContainsAt xs x
   has_cons_cases y xs x (zero, lt, at) = inl (at y)
   has_cons_cases y xs x (suc i, lt, at) = inr (i, omega arith, at)
 

@@ -1,6 +1,6 @@
 -- Entries in rising order: parts of a list, and the steps of a search by halving. Assumes nothing.
 use Rattle.std.proofs.Common.{◌≡◌, ℕ, ◌+◌, ◌<◌, ◌≤◌, Bool, true, List, [], ◌∷◌, ◌++◌, length, get_or, take, drop, sym, ap, ◌∙◌, subst, arith}
-use Rattle.std.specs.List.{AllByRecursion as All}
+use Rattle.std.specs.List.{AllByRecursion}
 use Rattle.std.proofs.lemmas.List.{take-append-drop, drop_more, length-take-le}
 use Rattle.std.proofs.ByRecursion.{All-append, All-weaker, All-more}
 use Rattle.order.specs.Orders.{Total}
@@ -11,11 +11,11 @@ use Rattle.table.specs.Searches.{Found, Missing}
 use Rattle.table.proofs.Held.{absent_around}
 
 module _ {X : Type 0} where
-  all_parts : (P : X → Type 0) (xs ys : List X) → All P (xs ++ ys) → All P xs × All P ys
+  all_parts : (P : X → Type 0) (xs ys : List X) → AllByRecursion P (xs ++ ys) → AllByRecursion P xs × AllByRecursion P ys
   all_parts P [] ys h = (tt, h)
   all_parts P (x ∷ xs) ys h = let r = all_parts P xs ys h.1 in ((h.0, r.0), r.1)
 
-  all_both : (P Q : X → Type 0) (xs : List X) → All P xs → All Q xs → All (λ x. P x × Q x) xs
+  all_both : (P Q : X → Type 0) (xs : List X) → AllByRecursion P xs → AllByRecursion Q xs → AllByRecursion (λ x. P x × Q x) xs
   all_both P Q [] h k = tt
   all_both P Q (x ∷ xs) h k = ((h.0, k.0), all_both P Q xs h.1 k.1)
 
@@ -25,7 +25,7 @@ module _ {X : Type 0} where
 module _ {K V : Type 0} (less : K → K → Bool) where
   -- the keys of xs are less than all those of ys
   abbrev Under : List (Entry K V) → List (Entry K V) → Type 0
-  Under xs ys = All (λ x. All (λ y. less x.key y.key ≡ true) ys) xs
+  Under xs ys = AllByRecursion (λ x. AllByRecursion (λ y. less x.key y.key ≡ true) ys) xs
 
   rising_parts : (xs ys : List (Entry K V)) → Rising less (xs ++ ys) → Rising less xs × Rising less ys × Under xs ys
   rising_parts [] ys h = (tt, h, tt)
@@ -45,7 +45,7 @@ module _ {K V : Type 0} (less : K → K → Bool) where
         let p = rising_parts front (e ∷ back) h in
         record {
           below =
-              All-weaker (λ x. All (λ y. less x.key y.key ≡ true) (e ∷ back)) (λ x. less x.key e.key ≡ true) (λ x q. q.0) front p.2;
+              All-weaker (λ x. AllByRecursion (λ y. less x.key y.key ≡ true) (e ∷ back)) (λ x. less x.key e.key ≡ true) (λ x q. q.0) front p.2;
           above = p.1.0;
         }
 
@@ -53,18 +53,18 @@ module _ {K V : Type 0} (less : K → K → Bool) where
     rising_without h =
         let p = rising_parts front (e ∷ back) h in
         rising_join front back p.0 p.1.1
-        (All-weaker (λ x. All (λ y. less x.key y.key ≡ true) (e ∷ back)) (λ x. All (λ y. less x.key y.key ≡ true) back) (λ x q. q.1) front p.2)
+        (All-weaker (λ x. AllByRecursion (λ y. less x.key y.key ≡ true) (e ∷ back)) (λ x. AllByRecursion (λ y. less x.key y.key ≡ true) back) (λ x q. q.1) front p.2)
 
     pub rising_with : Around less front e.key back → Rising less (front ++ back) → Rising less (front ++ e ∷ back)
     rising_with a h =
         let p = rising_parts front back h in
         rising_join front (e ∷ back) p.0 (a.above, p.1)
-        (all_both (λ x. less x.key e.key ≡ true) (λ x. All (λ y. less x.key y.key ≡ true) back) front a.below p.2)
+        (all_both (λ x. less x.key e.key ≡ true) (λ x. AllByRecursion (λ y. less x.key y.key ≡ true) back) front a.below p.2)
 
   -- where a search stands: the keys below low are less than k, those from high on greater
   pub record Narrowed (xs : List (Entry K V)) (k : K) (low high : ℕ) : Type 0 where
-    pub below : All (λ e. less e.key k ≡ true) (take low xs)
-    pub above : All (λ e. less k e.key ≡ true) (drop high xs)
+    pub below : AllByRecursion (λ e. less e.key k ≡ true) (take low xs)
+    pub above : AllByRecursion (λ e. less k e.key ≡ true) (drop high xs)
 
   module _ (total : Total less) (xs : List (Entry K V)) (k : K) where
     -- what stands in the middle
@@ -72,16 +72,16 @@ module _ {K V : Type 0} (less : K → K → Bool) where
       here : Around less (take m xs) (get_or xs m d).key (drop (m + 1) xs)
       here = rising_around (take m xs) (get_or xs m d) (drop (m + 1) xs) (subst (Rising less) (split_at xs m d lt) up)
 
-      pub below_more : less (get_or xs m d).key k ≡ true → All (λ e. less e.key k ≡ true) (take (m + 1) xs)
+      pub below_more : less (get_or xs m d).key k ≡ true → AllByRecursion (λ e. less e.key k ≡ true) (take (m + 1) xs)
       below_more h =
           All-more (λ e. less e.key k ≡ true) xs m d lt
           (All-weaker (λ e. less e.key (get_or xs m d).key ≡ true) (λ e. less e.key k ≡ true)
           (λ e q. total.transitive e.key (get_or xs m d).key k q h) (take m xs) here.below)
           h
 
-      pub above_more : less k (get_or xs m d).key ≡ true → All (λ e. less k e.key ≡ true) (drop m xs)
+      pub above_more : less k (get_or xs m d).key ≡ true → AllByRecursion (λ e. less k e.key ≡ true) (drop m xs)
       above_more h =
-          subst (All (λ e. less k e.key ≡ true)) (sym (drop_more xs m d lt)) (
+          subst (AllByRecursion (λ e. less k e.key ≡ true)) (sym (drop_more xs m d lt)) (
             h,
             All-weaker (λ e. less (get_or xs m d).key e.key ≡ true) (λ e. less k e.key ≡ true)
                 (λ e q. total.transitive k (get_or xs m d).key e.key h q) (drop (m + 1) xs) here.above,

@@ -1,6 +1,6 @@
 -- A sweep of a row, and what it does to the order. Assumes nothing.
 use Rattle.std.proofs.Common.{◌≡◌, ℕ, ◌≤◌, Bool, true, List, [], ◌∷◌, length, take, ap, arith}
-use Rattle.std.specs.List.{AllByRecursion as All}
+use Rattle.std.specs.List.{AllByRecursion}
 use Rattle.std.proofs.lemmas.List.{append-nil}
 use Rattle.std.proofs.lemmas.Bool.{cond_both}
 use Rattle.memory.specs.Rings.{around}
@@ -19,11 +19,11 @@ module _ {S X : Type 0} (passes : S → X → Bool) (noted : S → X → S) wher
       let rest = retained_length (noted s x) xs in
       cond_both (passes s x) (x ∷ retained passes noted (noted s x) xs) (retained passes noted (noted s x) xs) (λ zs. length zs ≤ length (x ∷ xs)) (λ _. omega arith) (λ _. omega arith)
 
-  retained_all : (P : X → Type 0) (s : S) (xs : List X) → All P xs → All P (retained passes noted s xs)
+  retained_all : (P : X → Type 0) (s : S) (xs : List X) → AllByRecursion P xs → AllByRecursion P (retained passes noted s xs)
   retained_all P s [] h = tt
   retained_all P s (x ∷ xs) h =
       let rest = retained_all P (noted s x) xs h.1 in
-      cond_both (passes s x) (x ∷ retained passes noted (noted s x) xs) (retained passes noted (noted s x) xs) (All P) (λ _. (h.0, rest)) (λ _. rest)
+      cond_both (passes s x) (x ∷ retained passes noted (noted s x) xs) (retained passes noted (noted s x) xs) (AllByRecursion P) (λ _. (h.0, rest)) (λ _. rest)
 
 module _ {S K V : Type 0} (less : K → K → Bool) (passes : S → Entry K V → Bool) (noted : S → Entry K V → S) where
   pub retained_rising : (s : S) (xs : List (Entry K V)) → Rising less xs → Rising less (retained passes noted s xs)

@@ -1,5 +1,5 @@
 use Rattle.std.proofs.Common.{◌≡◌, ◌+◌, ◌-◌, ◌/◌, ◌<◌, true, length, sym, subst, arith}
-use Rattle.std.specs.List.{AllByRecursion as All}
+use Rattle.std.specs.List.{AllByRecursion}
 use Rattle.std.proofs.lemmas.List.{drop_all}
 use Rattle.table.proofs.Ordered.{Narrowed, below_more, above_more, found, missing}
 use Rattle.table.proofs.row.binary_search.Goals as goal
@@ -13,7 +13,7 @@ loop-low-init g c =
       omega arith,
       λ up. record {
         below = tt;
-        above = subst (All (λ e. less k e.key ≡ true)) (sym (drop_all (length xs) xs (omega arith))) tt;
+        above = subst (AllByRecursion (λ e. less k e.key ≡ true)) (sym (drop_all (length xs) xs (omega arith))) tt;
       },
     )
 
