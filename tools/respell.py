@@ -3,7 +3,8 @@
 
 usage: tools/respell.py     at the top of the repository, once, right after the kit's port.py
 
-It turns whole words in specs/, in proofs/ and in the ghost text of src/; functions of src/, strings and comments on them keep theirs.
+It turns whole words in each .rt and .antt file below crates/. No old name in the table is one of a function, a type or a string of src/, so
+there only ghost text changes, and a comment that names a definition.
 """
 import os
 import re
