@@ -2,71 +2,44 @@
 use Rattle.std.specs.Prelude.{◌≡◌, ℕ, zero, suc, ◌<◌, ◌≤◌, true, false, List, [], ◌∷◌, length, take, ◌≢◌, nat_lt, slice_index, refl}
 use Rattle.std.specs.declared.cmp.Ordering.TheVariants.{Less, Equal, Greater}
 use Rattle.std.specs.declared.cmp.Ordering.{Ordering}
-use Rattle.std.proofs.Common.{sym, ◌∙◌, inl, inr, arith}
-use Rattle.std.proofs.lemmas.Bool.{cases_order, lt-ltb, le-ltb, ltb-true, false≢true, true≢false}
+use Rattle.std.proofs.Common.{sym, ◌∙◌, arith, rules}
+use Rattle.std.proofs.lemmas.Bool.{ltb-true, false≢true, true≢false}
 use Rattle.std.proofs.lemmas.List.{take_all}
+use Rattle.std.proofs.lemmas.Cmp.{ranked}
+use Rattle.std.specs.Ordering.{MatchOrdering, nat_cmp, ordering_then}
+use Rattle.std.specs.Cmp.Lexicographic.{slice_cmp}
 use Rattle.order.specs.Orders.{Total, lex_less}
 use Rattle.order.specs.Comparisons.{Compares}
 use Rattle.order.specs.Totals.{total_from}
 
 module _ (x y : ℕ) (xs ys : List ℕ) where
   pub step_lt : x < y → lex_less (x ∷ xs) (y ∷ ys) ≡ true
-  step_lt h = let e : nat_lt x y ≡ true = lt-ltb x y h in rw e refl
+  step_lt = search rules
 
   pub step_gt : y < x → lex_less (x ∷ xs) (y ∷ ys) ≡ false
-  step_gt h =
-      let e : nat_lt x y ≡ false = le-ltb x y (omega arith) in
-      let f : nat_lt y x ≡ true = lt-ltb y x h in
-      rw (e, f) refl
+  step_gt = search rules
 
   pub step_eq : x ≡ y → lex_less (x ∷ xs) (y ∷ ys) ≡ lex_less xs ys
-  step_eq h =
-      let e : nat_lt x y ≡ false = le-ltb x y (omega arith) in
-      let f : nat_lt y x ≡ false = le-ltb y x (omega arith) in
-      rw (e, f) refl
+  step_eq = search rules
 
 asym : (a b : List ℕ) → lex_less a b ≡ true → lex_less b a ≡ false
 asym [] [] h = absurd (false≢true h)
 asym [] (y ∷ ys) h = refl
 asym (x ∷ xs) [] h = absurd (false≢true h)
-asym (x ∷ xs) (y ∷ ys) h =
-    elim (cases_order x y) [
-      | inl e ↦ step_eq y x ys xs (sym e) ∙ asym xs ys (sym (step_eq x y xs ys e) ∙ h)
-      | inr d ↦ elim d [ inl l ↦ step_gt y x ys xs l | inr l ↦ absurd (false≢true (sym (step_gt x y xs ys l) ∙ h)) ]
-    ]
+asym (x ∷ xs) (y ∷ ys) h = search (asym xs ys, rules)
 
 conn : (a b : List ℕ) → lex_less a b ≡ false → lex_less b a ≡ false → a ≡ b
 conn [] [] h k = refl
 conn [] (y ∷ ys) h k = absurd (true≢false h)
 conn (x ∷ xs) [] h k = absurd (true≢false k)
-conn (x ∷ xs) (y ∷ ys) h k =
-    elim (cases_order x y) [
-      | inl e ↦
-          let t : xs ≡ ys = conn xs ys (sym (step_eq x y xs ys e) ∙ h) (sym (step_eq y x ys xs (sym e)) ∙ k) in
-          cc
-      | inr d ↦ elim d [ inl l ↦ absurd (true≢false (sym (step_lt x y xs ys l) ∙ h)) | inr l ↦ absurd (true≢false (sym (step_lt y x ys xs l) ∙ k)) ]
-    ]
+conn (x ∷ xs) (y ∷ ys) h k = search (conn xs ys, rules)
 
 trans : (a b c : List ℕ) → lex_less a b ≡ true → lex_less b c ≡ true → lex_less a c ≡ true
-trans [] [] c h k = k
-trans [] (y ∷ ys) [] h k = absurd (false≢true k)
-trans [] (y ∷ ys) (z ∷ zs) h k = refl
+trans [] b [] h k = search rules
+trans [] b (z ∷ zs) h k = refl
 trans (x ∷ xs) [] c h k = absurd (false≢true h)
 trans (x ∷ xs) (y ∷ ys) [] h k = absurd (false≢true k)
-trans (x ∷ xs) (y ∷ ys) (z ∷ zs) h k =
-    elim (cases_order x y) [
-      | inl e ↦ elim (cases_order y z) [
-        | inl f ↦ step_eq x z xs zs (e ∙ f) ∙ trans xs ys zs (sym (step_eq x y xs ys e) ∙ h) (sym (step_eq y z ys zs f) ∙ k)
-        | inr d ↦ elim d [ inl l ↦ step_lt x z xs zs (omega arith) | inr l ↦ absurd (false≢true (sym (step_gt y z ys zs l) ∙ k)) ]
-      ]
-      | inr d ↦ elim d [
-        | inl l ↦ elim (cases_order y z) [
-          | inl f ↦ step_lt x z xs zs (omega arith)
-          | inr g ↦ elim g [ inl m ↦ step_lt x z xs zs (omega arith) | inr m ↦ absurd (false≢true (sym (step_gt y z ys zs m) ∙ k)) ]
-        ]
-        | inr l ↦ absurd (false≢true (sym (step_gt x y xs ys l) ∙ h))
-      ]
-    ]
+trans (x ∷ xs) (y ∷ ys) (z ∷ zs) h k = search (trans xs ys zs, rules)
 
 pub lex_total : Total lex_less
 lex_total = total_from lex_less asym conn trans
@@ -91,3 +64,13 @@ pub compares_at : (i : ℕ) (a b : List ℕ) (o : Ordering) → take i a ≡ tak
 compares_at i a b Less e h k n l = lex_at i a b e h k (ltb-true (slice_index a i) (slice_index b i) l)
 compares_at i a b Equal e h k n l = absurd (n refl)
 compares_at i a b Greater e h k n l = lex_at i b a (sym e) k h (ltb-true (slice_index b i) (slice_index a i) l)
+
+lex_step : (x y : ℕ) (xs ys : List ℕ) (o p : Ordering) → MatchOrdering o (x < y) (x ≡ y) (y < x) → Compares lex_less xs ys p → Compares lex_less (x ∷ xs) (y ∷ ys) (ordering_then o p)
+lex_step = search (step_lt, step_eq, rules)
+
+-- the library's comparison of lists of numbers is in this order
+pub lex_agrees : (a b : List ℕ) → Compares lex_less a b (slice_cmp nat_cmp a b)
+lex_agrees [] [] = refl
+lex_agrees [] (y ∷ ys) = refl
+lex_agrees (x ∷ xs) [] = refl
+lex_agrees (x ∷ xs) (y ∷ ys) = lex_step x y xs ys (nat_cmp x y) (slice_cmp nat_cmp xs ys) (ranked x y (nat_cmp x y) refl) (lex_agrees xs ys)

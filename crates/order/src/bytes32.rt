@@ -1,34 +1,19 @@
 //! Arrays of 32 bytes.
+ghost use Rattle.std.specs.Cmp.Lexicographic.{bytes_decides};
 ghost use Rattle.order.specs.Orders.{lex_less};
-ghost use Rattle.order.specs.Lexical.{lex_total};
+ghost use Rattle.order.specs.Lexical.{lex_agrees, lex_total};
 
 use crate::{Equality, TotalOrder};
-use std::cmp::Ordering;
 
 impl Equality for [u8; 32] {
-    fn equals(&self, other: &[u8; 32]) -> bool {
-        for i in 0..32 {
-            if self[i] != other[i] {
-                return false;
-            }
-        }
-        true
-    }
+    ghost identity = { bytes_decides };
 }
 
 /// The first byte in which two arrays differ decides.
 impl TotalOrder for [u8; 32] {
     ghost less = { lex_less };
 
-    ghost total = { lex_total };
+    ghost agrees = { lex_agrees };
 
-    fn compare(&self, other: &[u8; 32]) -> Ordering {
-        for place in 0..32 {
-            match self[place].compare(&other[place]) {
-                Ordering::Equal => {}
-                first => return first,
-            }
-        }
-        Ordering::Equal
-    }
+    ghost total = { lex_total };
 }

@@ -1,28 +1,45 @@
-//! Numbers of 64 bits.
+//! Numbers, in their own order.
 ghost use Rattle.std.specs.Prelude.{nat_lt};
 ghost use Rattle.std.proofs.Common.{rules};
 
 use crate::{Equality, TotalOrder};
-use std::cmp::Ordering;
+
+impl Equality for u8 {
+    ghost identity = { Prim.search rules };
+}
+
+impl TotalOrder for u8 {
+    ghost less = { nat_lt };
+
+    ghost agrees = { Prim.search rules };
+
+    ghost total = { Prim.search rules };
+}
+
+impl Equality for u16 {
+    ghost identity = { Prim.search rules };
+}
+
+impl Equality for u32 {
+    ghost identity = { Prim.search rules };
+}
+
+impl TotalOrder for u32 {
+    ghost less = { nat_lt };
+
+    ghost agrees = { Prim.search rules };
+
+    ghost total = { Prim.search rules };
+}
 
 impl Equality for u64 {
-    fn equals(&self, other: &u64) -> bool {
-        *self == *other
-    }
+    ghost identity = { Prim.search rules };
 }
 
 impl TotalOrder for u64 {
     ghost less = { nat_lt };
 
-    ghost total = { Prim.search rules };
+    ghost agrees = { Prim.search rules };
 
-    fn compare(&self, other: &u64) -> Ordering {
-        if *self < *other {
-            Ordering::Less
-        } else if *self == *other {
-            Ordering::Equal
-        } else {
-            Ordering::Greater
-        }
-    }
+    ghost total = { Prim.search rules };
 }

@@ -6,17 +6,17 @@ use crate::annotation::{Annotation, Finalized};
 use keys::Key;
 use types::{Cutoff, Height};
 
+// A key and an annotation, and no struct of both, as in the Rust: callers hold them apart, as `into_inner` gives them.
+
 /// Whether a pair is above a height floor: one that is bound to a height is if its height is higher, any other always is.
 pub fn above_height_floor<D>(floor: Height, key: &Key<D>, annotation: &Annotation) -> bool
     ensures { MatchBool result (AboveHeight floor key.now annotation.now) (AboveHeight floor key.now annotation.now → ⊥) }
 {
     match (key, annotation) {
-        (Key::Finalized { height }, _) => height.get() > floor.get(),
-        (Key::Block(_), Annotation::Untrusted { height }) => height.get() > floor.get(),
-        (Key::Block(_), Annotation::Certified { height }) => height.get() > floor.get(),
-        (Key::Block(_), Annotation::Finalized(Finalized::ByHeight { height })) => {
-            height.get() > floor.get()
-        }
+        (Key::Finalized { height }, _)
+        | (Key::Block(_), Annotation::Untrusted { height })
+        | (Key::Block(_), Annotation::Certified { height })
+        | (Key::Block(_), Annotation::Finalized(Finalized::ByHeight { height })) => *height > floor,
         _ => true,
     }
 }
@@ -26,8 +26,8 @@ pub fn above_round_floor<D>(cutoff: Cutoff, key: &Key<D>, annotation: &Annotatio
     ensures { MatchBool result (AboveRound cutoff key.now annotation.now) (AboveRound cutoff key.now annotation.now → ⊥) }
 {
     match (key, annotation) {
-        (Key::Notarized { round }, _) => !cutoff.covers(*round),
-        (Key::Block(_), Annotation::Finalized(Finalized::ByRound { round })) => {
+        (Key::Notarized { round }, _)
+        | (Key::Block(_), Annotation::Finalized(Finalized::ByRound { round })) => {
             !cutoff.covers(*round)
         }
         _ => true,

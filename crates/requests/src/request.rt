@@ -106,24 +106,11 @@ impl<D: Copy> Request<D> {
         ensures { MatchBool result (AboveHeight floor (key_of self.now) (annotation_of self.now)) (AboveHeight floor (key_of self.now) (annotation_of self.now) → ⊥) }
     {
         match self.kind {
-            RequestKind::Finalized { height } => height.get() > floor.get(),
-            RequestKind::Untrusted {
-                commitment: _,
-                height,
-            }
-            | RequestKind::Certified {
-                commitment: _,
-                height,
-            }
-            | RequestKind::FinalizedByHeight {
-                commitment: _,
-                height,
-            } => height.get() > floor.get(),
-            RequestKind::Notarized { round: _ }
-            | RequestKind::FinalizedByRound {
-                commitment: _,
-                round: _,
-            } => true,
+            RequestKind::Finalized { height }
+            | RequestKind::Untrusted { height, .. }
+            | RequestKind::Certified { height, .. }
+            | RequestKind::FinalizedByHeight { height, .. } => height > floor,
+            RequestKind::Notarized { .. } | RequestKind::FinalizedByRound { .. } => true,
         }
     }
 
@@ -132,11 +119,9 @@ impl<D: Copy> Request<D> {
         ensures { MatchBool result (AboveRound cutoff (key_of self.now) (annotation_of self.now)) (AboveRound cutoff (key_of self.now) (annotation_of self.now) → ⊥) }
     {
         match self.kind {
-            RequestKind::Notarized { round } => !cutoff.covers(round),
-            RequestKind::FinalizedByRound {
-                commitment: _,
-                round,
-            } => !cutoff.covers(round),
+            RequestKind::Notarized { round } | RequestKind::FinalizedByRound { round, .. } => {
+                !cutoff.covers(round)
+            }
             _ => true,
         }
     }

@@ -4,8 +4,6 @@ ghost use Rattle.types.specs.Rounds.{Covers};
 
 use crate::epoch::Epoch;
 use crate::round::Round;
-use order::TotalOrder;
-use std::cmp::Ordering;
 
 /// An inclusive bound on rounds: a round, or the end of an epoch.
 #[derive(Clone, Copy)]
@@ -21,11 +19,8 @@ impl Cutoff {
         ensures { MatchBool result (Covers self.now round) (Covers self.now round → ⊥) }
     {
         match *self {
-            Cutoff::Round(last) => match round.compare(&last) {
-                Ordering::Less | Ordering::Equal => true,
-                Ordering::Greater => false,
-            },
-            Cutoff::Epoch(last) => round.epoch().get() <= last.get(),
+            Cutoff::Round(last) => round <= last,
+            Cutoff::Epoch(last) => round.epoch() <= last,
         }
     }
 }

@@ -3,11 +3,10 @@ ghost use Rattle.std.specs.Prelude.{◌≡◌, Some, decimal, nat_lt};
 ghost use Rattle.std.proofs.Common.{rules};
 
 use order::{Equality, TotalOrder};
-use std::cmp::Ordering;
 use std::fmt;
 
 /// A position in the chain of blocks.
-#[derive(Clone, Copy)]
+#[derive(Clone, Copy, PartialEq, Eq, PartialOrd, Ord)]
 pub struct Height(u64);
 
 impl Height {
@@ -25,19 +24,15 @@ impl Height {
 }
 
 impl Equality for Height {
-    fn equals(&self, other: &Height) -> bool {
-        self.get().equals(&other.get())
-    }
+    ghost identity = { Prim.search rules };
 }
 
 impl TotalOrder for Height {
     ghost less = { λ a b. nat_lt a.0 b.0 };
 
-    ghost total = { Prim.search rules };
+    ghost agrees = { Prim.search rules };
 
-    fn compare(&self, other: &Height) -> Ordering {
-        self.get().compare(&other.get())
-    }
+    ghost total = { Prim.search rules };
 }
 
 impl fmt::Display for Height {

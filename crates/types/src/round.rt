@@ -6,11 +6,10 @@ ghost use Rattle.std.proofs.Common.{rules};
 use crate::epoch::Epoch;
 use crate::view::View;
 use order::{Equality, TotalOrder};
-use std::cmp::Ordering;
 use std::fmt;
 
 /// An epoch and a view in it. Rounds compare by epoch, then by view.
-#[derive(Clone, Copy)]
+#[derive(Clone, Copy, PartialEq, Eq, PartialOrd, Ord)]
 pub struct Round {
     epoch: Epoch,
     view: View,
@@ -37,23 +36,15 @@ impl Round {
 }
 
 impl Equality for Round {
-    fn equals(&self, other: &Round) -> bool {
-        let Round { epoch, view } = *self;
-        epoch.equals(&other.epoch) && view.equals(&other.view)
-    }
+    ghost identity = { Prim.search rules };
 }
 
 impl TotalOrder for Round {
     ghost less = { round_less };
 
-    ghost total = { Prim.search rules };
+    ghost agrees = { Prim.search rules };
 
-    fn compare(&self, other: &Round) -> Ordering {
-        match self.epoch.compare(&other.epoch) {
-            Ordering::Equal => self.view.compare(&other.view),
-            first => first,
-        }
-    }
+    ghost total = { Prim.search rules };
 }
 
 impl fmt::Display for Round {

@@ -3,11 +3,10 @@ ghost use Rattle.std.specs.Prelude.{◌≡◌, Some, decimal, nat_lt};
 ghost use Rattle.std.proofs.Common.{rules};
 
 use order::{Equality, TotalOrder};
-use std::cmp::Ordering;
 use std::fmt;
 
 /// A position within one epoch.
-#[derive(Clone, Copy)]
+#[derive(Clone, Copy, PartialEq, Eq, PartialOrd, Ord)]
 pub struct View(u64);
 
 impl View {
@@ -25,19 +24,15 @@ impl View {
 }
 
 impl Equality for View {
-    fn equals(&self, other: &View) -> bool {
-        self.get().equals(&other.get())
-    }
+    ghost identity = { Prim.search rules };
 }
 
 impl TotalOrder for View {
     ghost less = { λ a b. nat_lt a.0 b.0 };
 
-    ghost total = { Prim.search rules };
+    ghost agrees = { Prim.search rules };
 
-    fn compare(&self, other: &View) -> Ordering {
-        self.get().compare(&other.get())
-    }
+    ghost total = { Prim.search rules };
 }
 
 impl fmt::Display for View {
