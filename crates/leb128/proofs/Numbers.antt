@@ -1,5 +1,6 @@
 -- Laws of the encoding of numbers. Assumes nothing.
-use Rattle.std.proofs.Common.{◌≡◌, ℕ, zero, suc, ◌+◌, ◌*◌, ◌/◌, ◌%◌, ◌^◌, ◌<◌, ◌≤◌, true, false, ltb, List, [], ◌∷◌, ◌++◌, length, get_or, take, drop, sym, refl, ap, ◌∙◌, subst, inl, inr, suc-le-suc, mul_assoc, mul_comm, add-mul, zero-add, arith, pow-add}
+use Rattle.std.proofs.Common.{◌≡◌, ℕ, zero, suc, ◌+◌, ◌*◌, ◌/◌, ◌%◌, ◌^◌, ◌<◌, ◌≤◌, ◌-◌, max, true, false, ltb, List, [], ◌∷◌, ◌++◌, length, get_or, take, drop, sym, refl, ap, ◌∙◌, subst, inl, inr, suc-le-suc, mul_assoc, mul_comm, add-mul, zero-add, arith, pow-add}
+use Rattle.std.proofs.Math.Nat.{one-le-pow}
 use Rattle.std.proofs.lemmas.Bool.{cases_lt, lt-ltb, le-ltb}
 use Rattle.std.proofs.lemmas.Nat.{shl_whole}
 use Rattle.std.proofs.lemmas.List.{take_more, take-append-drop, get_or-take, length-take-le}
@@ -151,6 +152,34 @@ length-encode_more n h = omega (arith, ap length (encode_more n h))
 
 pub length-encode_pos : (n : ℕ) → 0 < length (encode n)
 length-encode_pos n = elim (cases_lt n 128) [ inl l ↦ omega (arith, length-encode_last n l) | inr m ↦ omega (arith, length-encode_more n m) ]
+
+pub encode_single : (n : ℕ) → length (encode n) ≤ 1 → n < 128
+encode_single n h = elim (cases_lt n 128) [ inl l ↦ l | inr m ↦ absurd (omega (arith, length-encode_more n m, length-encode_pos (n / 128))) ]
+
+pub encode_several : (n : ℕ) → 1 < length (encode n) → 128 ≤ n
+encode_several n h = elim (cases_lt n 128) [ inl l ↦ absurd (omega (arith, length-encode_last n l)) | inr m ↦ m ]
+
+-- a byte for each seven bits up to the highest, whose place is p
+size_by : (f p n : ℕ) → p ≤ f → 2 ^ p ≤ n → n < 2 * 2 ^ p → length (encode n) ≡ p / 7 + 1
+size_by zero p n g h k =
+    let z : p ≡ 0 = omega arith in
+    let e : 2 ^ p ≡ 1 = ap (λ (x : ℕ). 2 ^ x) z in
+    omega (arith, length-encode_last n (omega arith))
+size_by (suc f) p n g h k =
+    elim (cases_lt p 7) [
+      | inl l ↦
+          let b : 2 ^ suc p ≤ 2 ^ 7 = lib.Pow.pow_mono {i = suc p} {j = 7} (omega arith) in
+          omega (arith, length-encode_last n (omega arith))
+      | inr m ↦
+          let e : 7 + (p - 7) ≡ p = omega arith in
+          let q : 2 ^ p ≡ 128 * 2 ^ (p - 7) = ap (λ (x : ℕ). 2 ^ x) (sym e) ∙ pow-add 2 7 (p - 7) in
+          let o : 0 < 2 ^ (p - 7) = one-le-pow (p - 7) 2 (omega arith) in
+          omega (arith, length-encode_more n (omega arith), size_by f (p - 7) (n / 128) (omega arith) (omega arith) (omega arith))
+    ]
+
+pub size_at : (n p : ℕ) → 2 ^ p ≤ max n 1 → max n 1 < 2 * 2 ^ p → length (encode n) ≡ p / 7 + 1
+size_at zero p h k = omega (arith, length-encode_last 0 (omega arith), size_by p p 1 (omega arith) h k, length-encode_last 1 (omega arith))
+size_at (suc n) p h k = size_by p p (suc n) (omega arith) (omega arith) (omega arith)
 
 -- the bytes of n: p with the high bit and one without; the last is not 0 unless it is the first, and counts 2 ^ (7 * p) fold
 pub record Shape (n : ℕ) : Type 0 where

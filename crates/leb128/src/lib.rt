@@ -21,7 +21,7 @@ const TENTH_MAX: u8 = 1;
 const PADDING: u8 = 0;
 
 /// Why no number was read. A place counts from 0 at the number's first byte.
-#[derive(Clone, Copy)]
+#[derive(Clone, Copy, Debug, PartialEq, Eq)]
 pub enum NumberError {
     /// The bytes end inside the number.
     Truncated { place: usize },
@@ -31,12 +31,12 @@ pub enum NumberError {
     Padded { place: usize },
 }
 
-impl NumberError {
-    /// The refusal's number, and the place of the offending or missing byte.
-    pub fn refusal(&self) -> Refusal<usize>
-        ensures { result ≡ refusal_of self.now }
-    {
-        let (number, values) = match *self {
+/// The refusal's number, and the place of the offending or missing byte.
+impl From<NumberError> for Refusal<usize> {
+    ghost from_gives = { λ e r. r ≡ refusal_of e };
+
+    fn from(e: NumberError) -> Refusal<usize> {
+        let (number, values) = match e {
             NumberError::Truncated { place } => (1, place),
             NumberError::TooLarge { place } => (2, place),
             NumberError::Padded { place } => (3, place),
@@ -52,8 +52,7 @@ pub fn read(bytes: &[u8]) -> Result<(u64, &[u8]), NumberError>
     ensures refuses { (m p : ℕ) → Refuses bytes.now (refusal m p) → MatchResult result (λ _. ⊥) (λ e. refusal_of e ≡ refusal m p) }
 {
     let mut n = 0u64;
-    for (i, b) in bytes.iter().enumerate() {
-        let b = *b;
+    for (i, &b) in bytes.iter().enumerate() {
         if i == TENTH && b > TENTH_MAX {
             return Err(NumberError::TooLarge { place: i });
         }
@@ -69,36 +68,33 @@ pub fn read(bytes: &[u8]) -> Result<(u64, &[u8]), NumberError>
     Err(NumberError::Truncated { place })
 }
 
-/// How many bytes `n` is written in.
+/// How many bytes `n` is written in: one for each seven bits up to its highest.
+#[tactic(auto, using(crate::proofs::Numbers::size_at))]
 pub fn encode_size(n: u64) -> usize
     ensures value { result ≡ length (encode n) }
     ensures bound { result ≤ 10 }
 {
-    let mut rest = n;
-    let mut size = 1;
-    while rest >= 128 {
-        rest /= 128;
-        size += 1;
-    }
-    size
+    (n.max(1).ilog2() / 7 + 1) as usize
 }
 
-/// Writes `n` at the front of `out`, which has room for it.
+/// Writes `n` into `out`, which has as many bytes as that takes.
+#[tactic(auto, using(crate::proofs::Numbers::encode_single))]
 fn put(n: u64, out: &mut [u8])
-    requires { length (encode n) ≤ length out.old }
-    ensures { out.new ≡ encode n ++ drop (length (encode n)) out.old }
+    requires { length out.old ≡ length (encode n) }
+    ensures { out.new ≡ encode n }
 {
     let mut rest = n;
-    let mut i = 0;
-    while rest >= 128 {
-        out[i] = (rest % 128) as u8 + CONTINUATION;
-        rest /= 128;
-        i += 1;
+    if let Some((last, front)) = out.split_last_mut() {
+        for slot in front.iter_mut() {
+            *slot = (rest % 128) as u8 + CONTINUATION;
+            rest /= 128;
+        }
+        *last = rest as u8;
     }
-    out[i] = rest as u8;
 }
 
 /// Writes `n` at the front of `out`, and answers how many bytes that took.
+#[tactic(auto, using(crate::proofs::Encodings::one_encoding))]
 pub fn write(n: u64, out: &mut [u8]) -> Result<usize, WriteError>
     ensures writes { Writes (encode n) out.old out.new result }
     ensures one { OneEncoding n (encode n) }
@@ -107,6 +103,6 @@ pub fn write(n: u64, out: &mut [u8]) -> Result<usize, WriteError>
     if out.len() < needed {
         return Err(WriteError::OutputTooShort { needed });
     }
-    put(n, out);
+    put(n, &mut out[..needed]);
     Ok(needed)
 }

@@ -8,8 +8,8 @@ ghost use Rattle.refusals.specs.Refusals.{refusal_of};
 use std::fmt;
 
 /// What a caller is told of a refusal. For each error enum one definition gives every case this form:
-/// `refusal_of` in specs/, and the method `refusal` in the code.
-#[derive(Clone, Copy)]
+/// `refusal_of` in specs/, and `From` in the code.
+#[derive(Clone, Copy, Debug, PartialEq, Eq)]
 pub struct Refusal<V> {
     pub number: u8,
     pub values: V,
@@ -26,14 +26,14 @@ impl<V: fmt::Display> fmt::Display for Refusal<V> {
 }
 
 /// Why nothing was written.
-#[derive(Clone, Copy)]
+#[derive(Clone, Copy, Debug, PartialEq, Eq)]
 pub enum WriteError {
     /// The output has fewer bytes than what is to be written needs.
     OutputTooShort { needed: usize },
 }
 
 /// How many bytes an output needs.
-#[derive(Clone, Copy)]
+#[derive(Clone, Copy, Debug, PartialEq, Eq)]
 pub struct BytesNeeded(pub usize);
 
 impl fmt::Display for BytesNeeded {
@@ -45,11 +45,11 @@ impl fmt::Display for BytesNeeded {
     }
 }
 
-impl WriteError {
-    pub fn refusal(&self) -> Refusal<BytesNeeded>
-        ensures { result ≡ refusal_of self.now }
-    {
-        match *self {
+impl From<WriteError> for Refusal<BytesNeeded> {
+    ghost from_gives = { λ e r. r ≡ refusal_of e };
+
+    fn from(e: WriteError) -> Refusal<BytesNeeded> {
+        match e {
             WriteError::OutputTooShort { needed } => Refusal {
                 number: 5,
                 values: BytesNeeded(needed),

@@ -71,8 +71,5 @@ returns-then-b-eq-PADDING c =
     let h : Refuses bs (refusal 3 i) = padded i (search rules) (search rules) (search rules) c.loop-i.invariant.1 (search rules) in
     record { reads = h; accepts = refused_number bs (refusal 3 i) h; refuses = refused_only bs (refusal 3 i) h }
 
-pub returns : goal.returns
-returns c =
-    let bs : List ℕ = c.args.bytes.now in
-    let h : Refuses bs (refusal 1 (length bs)) = ends (length bs) refl (search rules) (λ k q. c.loop-i.invariant.1 k (search rules)) in
-    record { reads = h; accepts = refused_number bs (refusal 1 (length bs)) h; refuses = refused_only bs (refusal 1 (length bs)) h }
+pub returns-clause-reads : goal.returns-clause-reads
+returns-clause-reads c = ends (length c.args.bytes.now) refl (search rules) (λ k q. c.loop-i.invariant.1 k (search rules))
