@@ -1,5 +1,5 @@
 -- The bytes of a key are those of no other, and meet no refusal; bytes meet one refusal at most. Assumes nothing.
-use Rattle.std.proofs.Common.{◌≡◌, ℕ, ◌+◌, ◌^◌, ◌<◌, List, ◌∷◌, ◌++◌, length, get_or, take, drop, sym, refl, ap, ◌∙◌, subst, arith}
+use Rattle.std.proofs.Common.{◌≡◌, ℕ, ◌+◌, ◌^◌, ◌<◌, List, ◌∷◌, ◌++◌, length, get_or, take, drop, sym, refl, ap, ◌∙◌, subst, arith, rules}
 use Rattle.std.proofs.lemmas.List.{take_at, drop_at, length-append, append_assoc}
 use Rattle.refusals.specs.declared.Refusal.{Refusal}
 use Rattle.refusals.specs.Refusals.{refusal}
@@ -55,11 +55,7 @@ two_numbers a b c d r s e =
 
 -- a field whose number begins somewhere has the tag 1 or 2
 tag_of_field : (bs : List ℕ) (f : Field) (s : ℕ) → Begins bs f s → (0 < length bs) × (0 < get_or bs 0 0) × (get_or bs 0 0 < 3)
-tag_of_field bs Tag s b = absurd b
-tag_of_field bs Digest s b = absurd b
-tag_of_field bs HeightField s b = (b.0, omega arith, omega arith)
-tag_of_field bs Epoch s b = (b.0, omega arith, omega arith)
-tag_of_field bs View s b = let t = tag_at 2 bs _ b.2 in (omega (arith, ap length b.2), omega arith, omega arith)
+tag_of_field = search (tag_at, rules)
 
 -- where the view behind an epoch begins
 view_at : (bs : List ℕ) (s : ℕ) (b : Begins bs View s) → drop s bs ≡ b.1
@@ -69,10 +65,7 @@ view_at bs s b =
 -- bytes that begin with the tag 0 and a whole digest meet no refusal
 module _ (size : ℕ) (bs x rest : List ℕ) (e : bs ≡ 0 ∷ (x ++ rest)) (l : length x ≡ size) where
   pub block_stands : (f : Refusal Location) → Refuses size bs f → ⊥
-  block_stands f (no_tag h) = omega (arith, ap length e)
-  block_stands f (unknown_tag t h g m) = omega (arith, tag_at 0 bs _ e)
-  block_stands f (short_digest p h g m q) = omega (arith, ap length e, length-append x rest)
-  block_stands f (in_number g s m q p b h t) = omega (arith, tag_at 0 bs _ e, (tag_of_field bs g s b).1)
+  block_stands = search (tag_at, tag_of_field, length-append, rules)
 
 -- nor do bytes that begin with the tag 1 and a number
 module _ (size : ℕ) (bs : List ℕ) (n : ℕ) (rest : List ℕ) (e : bs ≡ 1 ∷ (encode n ++ rest)) (w : n < 2 ^ 64) where
@@ -84,10 +77,7 @@ module _ (size : ℕ) (bs : List ℕ) (n : ℕ) (rest : List ℕ) (e : bs ≡ 1 
   height_stands_in View s r b h = omega (arith, tag_at 1 bs _ e, tag_at 2 bs _ b.2)
 
   pub height_stands : (f : Refusal Location) → Refuses size bs f → ⊥
-  height_stands f (no_tag h) = omega (arith, ap length e)
-  height_stands f (unknown_tag t h g m) = omega (arith, tag_at 1 bs _ e)
-  height_stands f (short_digest p h g m q) = omega (arith, tag_at 1 bs _ e)
-  height_stands f (in_number g s m q p b h t) = height_stands_in g s (refusal m q) b h
+  height_stands = search (tag_at, height_stands_in, rules)
 
 -- nor do bytes that begin with the tag 2 and two numbers
 module _ (size : ℕ) (bs : List ℕ) (n v : ℕ) (rest : List ℕ) (e : bs ≡ 2 ∷ ((encode n ++ encode v) ++ rest)) (w : (n < 2 ^ 64) × (v < 2 ^ 64)) where
@@ -102,10 +92,7 @@ module _ (size : ℕ) (bs : List ℕ) (n v : ℕ) (rest : List ℕ) (e : bs ≡ 
       none_begins (drop s bs) r h v rest w.1 (view_at bs s b ∙ (one_number b.0 n b.1 (encode v ++ rest) t).1)
 
   pub round_stands : (f : Refusal Location) → Refuses size bs f → ⊥
-  round_stands f (no_tag h) = omega (arith, ap length e)
-  round_stands f (unknown_tag t h g m) = omega (arith, tag_at 2 bs _ e)
-  round_stands f (short_digest p h g m q) = omega (arith, tag_at 2 bs _ e)
-  round_stands f (in_number g s m q p b h t) = round_stands_in g s (refusal m q) b h
+  round_stands = search (tag_at, round_stands_in, rules)
 
 module _ {D : Type 0} (image : D → List ℕ) (size : ℕ) (valid : D → Type 0) (long : (d : D) → valid d → length (image d) ≡ size)
     (one : (a b : D) → valid a → valid b → image a ≡ image b → a ≡ b) where
@@ -128,9 +115,7 @@ module _ {D : Type 0} (image : D → List ℕ) (size : ℕ) (valid : D → Type 
 
   -- bytes that a key's bytes begin meet no refusal
   pub not_refused : (bs : List ℕ) (f : Refusal Location) → Refuses size bs f → (k : Key D) (rest : List ℕ) → ValidKey valid k → bs ≡ key_bytes image k ++ rest → ⊥
-  not_refused bs f r (Block d) rest w e = block_stands size bs (image d) rest e (long d w) f r
-  not_refused bs f r (Finalized h) rest w e = height_stands size bs h.0 rest e w f r
-  not_refused bs f r (Notarized q) rest w e = round_stands size bs q.epoch.0 q.view.0 rest e w f r
+  not_refused = search (block_stands, height_stands, round_stands, long, rules)
 
 -- an epoch that is refused has no view behind it
 no_view : (bs : List ℕ) (s t : ℕ) (r : Refusal ℕ) → Begins bs Epoch s → Begins bs View t → NumberRefuses (drop s bs) r → ⊥

@@ -1,4 +1,3 @@
-pub mod Writing
 pub mod Alone
 pub mod Walking
 pub mod Shown

@@ -1,9 +1,7 @@
 -- What the walk over the fields of a key has read, and what it refuses. Assumes nothing.
 use Rattle.std.proofs.Common.{◌≡◌, ℕ, ◌+◌, ◌-◌, ◌^◌, ◌<◌, ◌≤◌, List, ◌∷◌, ◌++◌, length, get_or, take, drop, sym, refl, ap, ◌∙◌, subst, arith, Bor}
-use Rattle.std.proofs.lemmas.List.{drop_at, drop-drop, length-append, length-drop, length-take-le, append_assoc, take-append-drop}
+use Rattle.std.proofs.lemmas.List.{drop_at, drop-drop, length-drop, length-take-le, take-append-drop}
 use Rattle.refusals.specs.Refusals.{refusal}
-use Rattle.types.specs.declared.height.Height.{Height}
-use Rattle.types.specs.declared.round.Round.{Round}
 use Rattle.leb128.specs.Unsigned.{encode}
 use Rattle.leb128.specs.Refusals.{Refuses as NumberRefuses}
 use Rattle.keys.specs.declared.error.Layer.TheVariants as layer
@@ -11,7 +9,7 @@ use Rattle.keys.specs.declared.error.Field.{Field}
 use Rattle.keys.specs.declared.error.Field.TheVariants as field
 use Rattle.keys.specs.declared.error.Location.TheVariants.{InField, AtTag}
 use Rattle.keys.specs.declared.key_ref.KeyRef.{KeyRef}
-use Rattle.keys.specs.declared.key_ref.KeyRef.TheVariants.{Block, Finalized, Notarized}
+use Rattle.keys.specs.declared.key_ref.KeyRef.TheVariants.{Block}
 use Rattle.keys.specs.Borrowed.{ref_bytes, ShownBy, Borrows}
 use Rattle.keys.specs.Refusals.{Begins, Refuses, no_tag, unknown_tag, short_digest, in_number}
 use Rattle.keys.proofs.Walking.{some_left, first_left, tag_left, within}
@@ -44,23 +42,6 @@ module _ (size : ℕ) (bs : List ℕ) (i q t : ℕ) (l : i < length bs) (m : q �
       sym (take-append-drop size (drop q bs)) ∙ ap (λ (x : List ℕ). x ++ drop size (drop q bs)) (sym p) ∙ ap (λ (x : List ℕ). part.now ++ x) (drop-drop size q bs) ∙ ap (λ (j : ℕ). part.now ++ drop j bs) (sym c) in
       let a : length part.now ≡ size = ap length p ∙ length-take-le size (drop q bs) (omega (arith, length-drop q bs)) in
       shows size bs i w z (Block part) e (tagged 0 (part.now ++ drop w bs) n d) (p ∙ ap (take size) (sym next_place), a) (omega arith) b
-
-  pub finalized : (h : Height) (n w z : ℕ) → z ≡ w → t ≡ 1 → h.0 ≡ n → n < 2 ^ 64 → drop q bs ≡ encode n ++ drop w bs → w ≡ q + length (encode n) → w ≤ length bs
-      → Shows size bs i (Finalized h) z
-  finalized h n w z e o s f d c b =
-      let x : encode n ≡ encode h.0 = ap encode (sym s) in
-      shows size bs i w z (Finalized h) e (tagged 1 (encode h.0 ++ drop w bs) o (d ∙ ap (λ (y : List ℕ). y ++ drop w bs) x)) (omega arith) (omega (arith, ap length x)) b
-
-  pub notarized : (r : Round) (e v p w z : ℕ) → z ≡ w → t ≡ 2 → r.epoch.0 ≡ e → r.view.0 ≡ v → e < 2 ^ 64 → v < 2 ^ 64 → drop q bs ≡ encode e ++ drop p bs → p ≡ q + length (encode e)
-      → drop p bs ≡ encode v ++ drop w bs → w ≡ p + length (encode v) → w ≤ length bs → Shows size bs i (Notarized r) z
-  notarized r e v p w z a o se sv fe fv d c f h b =
-      let x : encode e ≡ encode r.epoch.0 = ap encode (sym se) in
-      let y : encode v ≡ encode r.view.0 = ap encode (sym sv) in
-      let both : encode e ++ encode v ≡ encode r.epoch.0 ++ encode r.view.0 = ap (λ (u : List ℕ). u ++ encode v) x ∙ ap (λ (u : List ℕ). encode r.epoch.0 ++ u) y in
-      let u : drop q bs ≡ (encode r.epoch.0 ++ encode r.view.0) ++ drop w bs =
-      d ∙ ap (λ (s : List ℕ). encode e ++ s) f ∙ sym (append_assoc (encode e) (encode v) (drop w bs)) ∙ ap (λ (s : List ℕ). s ++ drop w bs) both in
-      shows size bs i w z (Notarized r) a (tagged 2 ((encode r.epoch.0 ++ encode r.view.0) ++ drop w bs) o u) (omega arith, omega arith)
-      (omega (arith, ap length both, length-append (encode e) (encode v))) b
 
   pub refuses_tag : 2 < t → Refuses size (drop i bs) (refusal 4 (AtTag layer.Key t 0))
   refuses_tag h = unknown_tag t (some_left bs i q t l m g) (sym (first_left bs i q t l m g)) h

@@ -1,21 +1,6 @@
 -- Parts of bytes that are read one after the other. Assumes nothing.
-use Rattle.std.proofs.Common.{◌≡◌, ℕ, ◌+◌, ◌-◌, ◌<◌, ◌≤◌, List, ◌∷◌, ◌++◌, length, get_or, take, drop, sym, refl, ap, ◌∙◌, add-zero, arith}
-use Rattle.std.proofs.lemmas.List.{take_rest, drop_at, drop-drop, drop_more, get_or-drop, length-append, length-drop}
-
--- x was read at p, and rest is what is left
-module _ (bs x rest : List ℕ) (p : ℕ) (h : p ≤ length bs) (e : take (length bs - p) (drop p bs) ≡ x ++ rest) where
-  from : drop p bs ≡ x ++ rest
-  from = sym (take_rest bs p) ∙ e
-
-  pub long : length bs ≡ p + length x + length rest
-  long = omega (arith, ap length from, length-append x rest, length-drop p bs)
-
-  pub moved : (drop p bs ≡ x ++ drop (length bs - length rest) bs) × (length bs - length rest ≡ p + length x) × (length bs - length rest ≤ length bs)
-  moved =
-      let k : length bs - length rest ≡ p + length x = omega (arith, long) in
-      let d : drop (length bs - length rest) bs ≡ rest =
-      ap (λ (j : ℕ). drop j bs) k ∙ sym (drop-drop (length x) p bs) ∙ ap (drop (length x)) from ∙ drop_at x rest (length x) refl in
-      (from ∙ ap (λ (y : List ℕ). x ++ y) (sym d), k, omega arith)
+use Rattle.std.proofs.Common.{◌≡◌, ℕ, ◌+◌, ◌-◌, ◌<◌, ◌≤◌, List, ◌∷◌, length, get_or, drop, sym, ap, ◌∙◌, add-zero, arith}
+use Rattle.std.proofs.lemmas.List.{drop-drop, drop_more, get_or-drop, length-drop}
 
 -- a byte was read at p
 module _ (bs : List ℕ) (p q b : ℕ) (l : p < length bs) (m : q ≡ p + 1) (g : b ≡ get_or bs p 0) where

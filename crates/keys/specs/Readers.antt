@@ -3,4 +3,4 @@ use Rattle.std.specs.Prelude.{ℕ, List, drop}
 use Rattle.keys.specs.declared.reader.Reader.{Reader}
 
 abbrev pub remaining : Reader → List ℕ
-remaining r = drop r.cursor.place r.bytes.now
+remaining r = drop r.cursor.place r.cursor.bytes.now

@@ -15,25 +15,27 @@ use crate::key_ref::KeyRef;
 use digests::Digest;
 use types::{Epoch, Height, Round, View};
 
-/// How many bytes have been read.
+/// Bytes, and how many of them have been read.
 #[derive(Clone, Copy)]
-pub struct Cursor {
-    pub(crate) place: usize,
+pub struct Cursor<'b> {
+    bytes: &'b [u8],
+    place: usize,
+    ghost within: { place ≤ length bytes.now },
 }
 
 /// Puts the cursor back to the key's first byte when it goes, unless the key is complete.
-struct Rewind<'a> {
-    cursor: &'a mut Cursor,
-    start: usize,
+struct Rewind<'a, 'b> {
+    cursor: &'a mut Cursor<'b>,
+    start: Cursor<'b>,
     complete: bool,
 }
 
-impl Drop for Rewind<'_> {
+impl Drop for Rewind<'_, '_> {
     fn drop(self)
-        ensures { self.exit.0.now.place ≡ (if self.entry.complete then self.entry.cursor.now.place else self.entry.start) }
+        ensures { self.exit.0.now ≡ (if self.entry.complete then self.entry.cursor.now else self.entry.start) }
     {
         if !self.complete {
-            self.cursor.place = self.start;
+            *self.cursor = self.start;
         }
         let Rewind {
             cursor: _,
@@ -43,42 +45,52 @@ impl Drop for Rewind<'_> {
     }
 }
 
-impl Cursor {
-    /// What is left of `bytes`.
-    pub(crate) fn rest<'b>(&self, bytes: &'b [u8]) -> &'b [u8]
-        requires { self.now.place ≤ length bytes.now }
-        ensures { result.now ≡ drop self.now.place bytes.now }
+impl<'b> Cursor<'b> {
+    /// Before the first of `bytes`.
+    pub(crate) fn new(bytes: &'b [u8]) -> Cursor<'b>
+        ensures { (result.bytes.now ≡ bytes.now) × (result.place ≡ 0) }
     {
-        &bytes[self.place..]
+        Cursor { bytes, place: 0 }
+    }
+
+    /// How many bytes have been read.
+    pub(crate) fn place(&self) -> usize
+        ensures { result ≡ self.now.place }
+    {
+        self.place
+    }
+
+    /// What is left of the bytes.
+    pub(crate) fn rest(&self) -> &'b [u8]
+        ensures { result.now ≡ drop self.now.place self.now.bytes.now }
+    {
+        &self.bytes[self.place..]
     }
 
     /// The byte at the cursor.
-    fn take_tag(&mut self, bytes: &[u8]) -> Result<u8, ReadError>
-        ensures { MatchResult result (λ tag. (self.new.place ≡ self.old.place + 1) × (self.old.place < length bytes.now) × (tag ≡ slice_index bytes.now self.old.place)) (λ e. (refusal_of e ≡ refusal 1 (InField layer.Key field.Tag 0)) × (length bytes.now ≤ self.old.place)) }
+    fn take_tag(&mut self) -> Result<u8, ReadError>
+        ensures bytes { self.new.bytes ≡ self.old.bytes }
+        ensures tag { MatchResult result (λ tag. (self.new.place ≡ self.old.place + 1) × (self.old.place < length self.old.bytes.now) × (tag ≡ slice_index self.old.bytes.now self.old.place)) (λ e. (refusal_of e ≡ refusal 1 (InField layer.Key field.Tag 0)) × (length self.old.bytes.now ≤ self.old.place)) }
     {
-        if self.place >= bytes.len() {
+        let Some(&tag) = self.bytes.get(self.place) else {
             return Err(ReadError::Truncated {
                 layer: Layer::Key,
                 field: Field::Tag,
                 place: 0,
             });
-        }
-        let tag = bytes[self.place];
+        };
         self.place += 1;
         Ok(tag)
     }
 
-    /// The `size` bytes at the cursor, as a part of `bytes`; the key began at `start`.
-    fn take_digest<'b>(
-        &mut self,
-        bytes: &'b [u8],
-        size: usize,
-        start: usize,
-    ) -> Result<&'b [u8], ReadError>
-        requires { (start ≤ self.old.place) × (self.old.place ≤ length bytes.now) }
-        ensures { MatchResult result (λ part. (part.now ≡ take size (drop self.old.place bytes.now)) × (self.new.place ≡ self.old.place + size) × (self.new.place ≤ length bytes.now)) (λ e. (refusal_of e ≡ refusal 1 (InField layer.Key field.Digest (length bytes.now - start))) × (length bytes.now < self.old.place + size)) }
+    /// The `size` bytes at the cursor, as a part of the bytes; the key began at `start`.
+    fn take_digest(&mut self, size: usize, start: usize) -> Result<&'b [u8], ReadError>
+        requires { start ≤ self.old.place }
+        ensures bytes { self.new.bytes ≡ self.old.bytes }
+        ensures digest { MatchResult result (λ part. (part.now ≡ take size (drop self.old.place self.old.bytes.now)) × (self.new.place ≡ self.old.place + size) × (self.new.place ≤ length self.old.bytes.now)) (λ e. (refusal_of e ≡ refusal 1 (InField layer.Key field.Digest (length self.old.bytes.now - start))) × (length self.old.bytes.now < self.old.place + size)) }
     {
         let from = self.place;
+        let bytes = self.bytes;
         if bytes.len() - from < size {
             return Err(ReadError::Truncated {
                 layer: Layer::Key,
@@ -91,44 +103,47 @@ impl Cursor {
     }
 
     /// The number at the cursor, of the field `field`; the key began at `start`.
-    fn take_number(&mut self, bytes: &[u8], field: Field, start: usize) -> Result<u64, ReadError>
-        requires { (start ≤ self.old.place) × (self.old.place ≤ length bytes.now) }
-        ensures { MatchResult result (λ n. (n < 2 ^ 64) × (drop self.old.place bytes.now ≡ encode n ++ drop self.new.place bytes.now) × (self.new.place ≡ self.old.place + length (encode n)) × (self.new.place ≤ length bytes.now)) (λ e. ((m q : ℕ) × (refusal_of e ≡ refusal m (InField layer.Number field (self.old.place - start + q))) × NumberRefuses (drop self.old.place bytes.now) (refusal m q))) }
+    fn take_number(&mut self, field: Field, start: usize) -> Result<u64, ReadError>
+        requires { start ≤ self.old.place }
+        ensures bytes { self.new.bytes ≡ self.old.bytes }
+        ensures number { MatchResult result (λ n. (n < 2 ^ 64) × (drop self.old.place self.old.bytes.now ≡ encode n ++ drop self.new.place self.old.bytes.now) × (self.new.place ≡ self.old.place + length (encode n)) × (self.new.place ≤ length self.old.bytes.now)) (λ e. ((m q : ℕ) × (refusal_of e ≡ refusal m (InField layer.Number field (self.old.place - start + q))) × NumberRefuses (drop self.old.place self.old.bytes.now) (refusal m q))) }
     {
-        match leb128::read(&bytes[self.place..]) {
+        match leb128::read(self.rest()) {
             Ok((n, rest)) => {
-                self.place = bytes.len() - rest.len();
+                self.place = self.bytes.len() - rest.len();
                 Ok(n)
             }
             Err(fault) => Err(ReadError::in_number(field, self.place - start, fault)),
         }
     }
 
-    /// The key at the cursor, whose digest is `size` bytes of `bytes`. A refusal leaves the cursor where it was.
-    pub(crate) fn next<'b>(&mut self, bytes: &'b [u8], size: usize) -> Result<KeyRef<'b>, ReadError>
-        ensures { Walks size bytes.now self.old.place self.new.place result }
+    /// The key at the cursor, whose digest is `size` bytes. A refusal leaves the cursor where it was.
+    #[tactic(auto, using(crate::proofs::Shown::refuses_end, crate::proofs::Shown::refuses_tag, crate::proofs::Shown::refuses_digest, crate::proofs::Shown::refuses_height, crate::proofs::Shown::refuses_epoch, crate::proofs::Shown::refuses_view))]
+    pub(crate) fn next(&mut self, size: usize) -> Result<KeyRef<'b>, ReadError>
+        ensures bytes { self.new.bytes ≡ self.old.bytes }
+        ensures walks { Walks size self.old.bytes.now self.old.place self.new.place result }
     {
         let start = self.place;
         let mut guard = Rewind {
+            start: *self,
             cursor: self,
-            start,
             complete: false,
         };
-        match guard.cursor.take_tag(bytes)? {
+        match guard.cursor.take_tag()? {
             BLOCK_REQUEST => {
-                let part = guard.cursor.take_digest(bytes, size, start)?;
+                let part = guard.cursor.take_digest(size, start)?;
                 guard.complete = true;
                 Ok(KeyRef::Block(part))
             }
             FINALIZED_REQUEST => {
-                let height = guard.cursor.take_number(bytes, Field::Height, start)?;
+                let height = guard.cursor.take_number(Field::Height, start)?;
                 guard.complete = true;
                 let height = Height::new(height);
                 Ok(KeyRef::Finalized { height })
             }
             NOTARIZED_REQUEST => {
-                let epoch = guard.cursor.take_number(bytes, Field::Epoch, start)?;
-                let view = guard.cursor.take_number(bytes, Field::View, start)?;
+                let epoch = guard.cursor.take_number(Field::Epoch, start)?;
+                let view = guard.cursor.take_number(Field::View, start)?;
                 guard.complete = true;
                 let round = Round::new(Epoch::new(epoch), View::new(view));
                 Ok(KeyRef::Notarized { round })
@@ -142,27 +157,25 @@ impl Cursor {
     }
 
     /// As `next`, with a digest of the type `D`; also says that no other answer would do.
-    pub(crate) fn read<'b, D: Digest>(&mut self, bytes: &'b [u8]) -> Result<KeyRef<'b>, ReadError>
-        ensures reads { Walks D.Digest.size bytes.now self.old.place self.new.place result }
-        ensures accepts { ViewsOnly D.Digest.image D.Digest.valid (drop self.old.place bytes.now) (λ b. b) (λ _. drop self.new.place bytes.now) result }
-        ensures refuses { RefusesOnly D.Digest.size (drop self.old.place bytes.now) result }
+    pub(crate) fn read<D: Digest>(&mut self) -> Result<KeyRef<'b>, ReadError>
+        ensures bytes { self.new.bytes ≡ self.old.bytes }
+        ensures reads { Walks D.Digest.SIZE self.old.bytes.now self.old.place self.new.place result }
+        ensures accepts { ViewsOnly D.Digest.image D.Digest.valid (drop self.old.place self.old.bytes.now) (λ b. b) (λ _. drop self.new.place self.old.bytes.now) result }
+        ensures refuses { RefusesOnly D.Digest.SIZE (drop self.old.place self.old.bytes.now) result }
     {
-        self.next(bytes, D::size())
+        self.next(D::SIZE)
     }
 
     /// Reads the key at the cursor into `key`. A refusal leaves `key` and the cursor as they were.
-    pub(crate) fn read_key<D: Digest>(
-        &mut self,
-        bytes: &[u8],
-        key: &mut Key<D>,
-    ) -> Result<(), ReadError>
-        ensures reads { Reads D.Digest.image D.Digest.size D.Digest.valid (drop self.old.place bytes.now) key.old key.new (λ _. drop self.new.place bytes.now) result }
-        ensures place { Moves D.Digest.image key.new (length bytes.now) self.old.place self.new.place result }
-        ensures accepts { Accepts D.Digest.image D.Digest.valid (drop self.old.place bytes.now) key.new (λ _. drop self.new.place bytes.now) result }
-        ensures refuses { RefusesOnly D.Digest.size (drop self.old.place bytes.now) result }
+    pub(crate) fn read_key<D: Digest>(&mut self, key: &mut Key<D>) -> Result<(), ReadError>
+        ensures bytes { self.new.bytes ≡ self.old.bytes }
+        ensures reads { Reads D.Digest.image D.Digest.SIZE D.Digest.valid (drop self.old.place self.old.bytes.now) key.old key.new (λ _. drop self.new.place self.old.bytes.now) result }
+        ensures place { Moves D.Digest.image key.new (length self.old.bytes.now) self.old.place self.new.place result }
+        ensures accepts { Accepts D.Digest.image D.Digest.valid (drop self.old.place self.old.bytes.now) key.new (λ _. drop self.new.place self.old.bytes.now) result }
+        ensures refuses { RefusesOnly D.Digest.SIZE (drop self.old.place self.old.bytes.now) result }
     {
-        let borrowed = self.read::<D>(bytes)?;
-        *key = borrowed.to_key()?;
+        let borrowed = self.read::<D>()?;
+        *key = Key::try_from(borrowed)?;
         Ok(())
     }
 }

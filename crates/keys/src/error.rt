@@ -12,7 +12,7 @@ use refusals::Refusal;
 use std::fmt;
 
 /// The part of the format whose rule a byte breaks.
-#[derive(Clone, Copy)]
+#[derive(Clone, Copy, Debug, PartialEq, Eq)]
 pub enum Layer {
     /// The bytes of one number.
     Number,
@@ -32,7 +32,7 @@ impl fmt::Display for Layer {
     }
 }
 
-#[derive(Clone, Copy)]
+#[derive(Clone, Copy, Debug, PartialEq, Eq)]
 pub enum Field {
     Tag,
     Digest,
@@ -57,7 +57,7 @@ impl fmt::Display for Field {
 }
 
 /// Why no key was read. A place counts from 0 at the key's first byte, and is that of the offending or missing byte.
-#[derive(Clone, Copy)]
+#[derive(Clone, Copy, Debug, PartialEq, Eq)]
 pub enum ReadError {
     /// The bytes end inside a field.
     Truncated {
@@ -86,7 +86,7 @@ pub enum ReadError {
 }
 
 /// What a refusal of reading hands back.
-#[derive(Clone, Copy)]
+#[derive(Clone, Copy, Debug, PartialEq, Eq)]
 pub enum Location {
     InField {
         layer: Layer,
@@ -117,11 +117,11 @@ impl fmt::Display for Location {
     }
 }
 
-impl ReadError {
-    pub fn refusal(&self) -> Refusal<Location>
-        ensures { result ≡ refusal_of self.now }
-    {
-        let (number, layer, field, place) = match *self {
+impl From<ReadError> for Refusal<Location> {
+    ghost from_gives = { λ e r. r ≡ refusal_of e };
+
+    fn from(error: ReadError) -> Refusal<Location> {
+        let (number, layer, field, place) = match error {
             ReadError::Truncated {
                 layer,
                 field,
@@ -149,8 +149,11 @@ impl ReadError {
         };
         Refusal { number, values }
     }
+}
 
+impl ReadError {
     /// The fault of the number in `field`, whose first byte is the key's byte `start`.
+    // No `From`: the field and the place where it begins are the caller's.
     pub(crate) fn in_number(field: Field, start: usize, fault: NumberError) -> ReadError
         requires { start + (number_refusal_of fault).values < 2 ^ 64 }
         ensures { refusal_of result ≡ refusal (number_refusal_of fault).number (InField layer.Number field (start + (number_refusal_of fault).values)) }

@@ -5,13 +5,13 @@ ghost use Rattle.leb128.specs.Unsigned.{encode};
 ghost use Rattle.keys.specs.Keys.{tag_of, content_bytes, key_bytes, key_less, ValidKey, Alone};
 ghost use Rattle.keys.specs.Reading.{Reads, Accepts, RefusesOnly};
 ghost use Rattle.keys.specs.Ordered.{key_total};
+ghost use Rattle.std.proofs.Common.{rules};
 
 use crate::cursor::Cursor;
 use crate::error::ReadError;
 use digests::Digest;
 use order::{Equality, TotalOrder};
 use refusals::WriteError;
-use std::cmp::Ordering;
 use types::{Height, Round};
 
 /// The tags.
@@ -21,8 +21,8 @@ pub(crate) const FINALIZED_REQUEST: u8 = 1;
 
 pub(crate) const NOTARIZED_REQUEST: u8 = 2;
 
-/// What a resolver is asked for.
-#[derive(Clone, Copy)]
+/// What a resolver is asked for. Keys compare by tag, in the order of the cases, then by content.
+#[derive(Clone, Copy, PartialEq, Eq, PartialOrd, Ord)]
 pub enum Key<D> {
     /// A block by its digest.
     Block(D),
@@ -53,16 +53,17 @@ fn write_round(round: Round, out: &mut [u8]) -> Result<usize, WriteError>
 impl<D: Digest> Key<D> {
     /// Reads the key at the front of `bytes` into `key`, and answers the rest of `bytes`. A refusal leaves `key` as it was.
     pub fn read<'a>(bytes: &'a [u8], key: &mut Key<D>) -> Result<&'a [u8], ReadError>
-        ensures reads { Reads D.Digest.image D.Digest.size D.Digest.valid bytes.now key.old key.new (λ rest. rest.now) result }
+        ensures reads { Reads D.Digest.image D.Digest.SIZE D.Digest.valid bytes.now key.old key.new (λ rest. rest.now) result }
         ensures accepts { Accepts D.Digest.image D.Digest.valid bytes.now key.new (λ rest. rest.now) result }
-        ensures refuses { RefusesOnly D.Digest.size bytes.now result }
+        ensures refuses { RefusesOnly D.Digest.SIZE bytes.now result }
     {
-        let mut cursor = Cursor { place: 0 };
-        cursor.read_key(bytes, key)?;
-        Ok(cursor.rest(bytes))
+        let mut cursor = Cursor::new(bytes);
+        cursor.read_key(key)?;
+        Ok(cursor.rest())
     }
 
     /// The tag.
+    // A byte and no enum, since it is what stands in the format; the cases are the key's own.
     fn subject(&self) -> u8
         ensures { result ≡ tag_of self.now }
     {
@@ -113,31 +114,13 @@ impl<D: Digest> Key<D> {
 }
 
 impl<D: Equality> Equality for Key<D> {
-    fn equals(&self, other: &Key<D>) -> bool {
-        match (self, other) {
-            (Key::Block(a), Key::Block(b)) => a.equals(b),
-            (Key::Finalized { height: a }, Key::Finalized { height: b }) => a.equals(b),
-            (Key::Notarized { round: a }, Key::Notarized { round: b }) => a.equals(b),
-            _ => false,
-        }
-    }
+    ghost identity = { Prim.search rules };
 }
 
-/// By tag, then by content.
 impl<D: TotalOrder> TotalOrder for Key<D> {
     ghost less = { key_less D.TotalOrder.less };
 
-    ghost total = { key_total D.TotalOrder.total };
+    ghost agrees = { Prim.search rules };
 
-    fn compare(&self, other: &Key<D>) -> Ordering {
-        match (self, other) {
-            (Key::Block(a), Key::Block(b)) => a.compare(b),
-            (Key::Finalized { height: a }, Key::Finalized { height: b }) => a.compare(b),
-            (Key::Notarized { round: a }, Key::Notarized { round: b }) => a.compare(b),
-            (Key::Block(_), _) => Ordering::Less,
-            (_, Key::Block(_)) => Ordering::Greater,
-            (Key::Finalized { height: _ }, _) => Ordering::Less,
-            (_, _) => Ordering::Greater,
-        }
-    }
+    ghost total = { key_total D.TotalOrder.total };
 }

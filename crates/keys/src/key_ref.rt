@@ -22,20 +22,24 @@ pub enum KeyRef<'a> {
 impl<'a> KeyRef<'a> {
     /// The key at the front of `bytes`, whose digest is a `D`, and the rest of `bytes`.
     pub fn read<D: Digest>(bytes: &'a [u8]) -> Result<(KeyRef<'a>, &'a [u8]), ReadError>
-        ensures reads { MatchResult result (λ p. Borrows D.Digest.size bytes.now p.0 p.1.now) (λ e. Refuses D.Digest.size bytes.now (refusal_of e)) }
+        ensures reads { MatchResult result (λ p. Borrows D.Digest.SIZE bytes.now p.0 p.1.now) (λ e. Refuses D.Digest.SIZE bytes.now (refusal_of e)) }
         ensures accepts { ViewsOnly D.Digest.image D.Digest.valid bytes.now (λ p. p.0) (λ p. p.1.now) result }
-        ensures refuses { RefusesOnly D.Digest.size bytes.now result }
+        ensures refuses { RefusesOnly D.Digest.SIZE bytes.now result }
     {
-        let mut cursor = Cursor { place: 0 };
-        let key = cursor.read::<D>(bytes)?;
-        Ok((key, cursor.rest(bytes)))
+        let mut cursor = Cursor::new(bytes);
+        let key = cursor.read::<D>()?;
+        Ok((key, cursor.rest()))
     }
+}
 
-    /// A key of its own. The digest is read at the front of the part, which is long enough in a key that was read for a `D`.
-    pub fn to_key<D: Digest>(&self) -> Result<Key<D>, ReadError>
-        ensures { MatchResult result (λ k. Copies D.Digest.size D.Digest.image D.Digest.valid self.now k) (λ e. TooShort D.Digest.size self.now (refusal_of e)) }
-    {
-        match *self {
+/// A copy that owns its digest. The digest is read at the front of the part, which is long enough in a key that was read for a `D`.
+impl<D: Digest> TryFrom<KeyRef<'_>> for Key<D> {
+    type Error = ReadError;
+
+    ghost try_from_gives = { λ b r. MatchResult r (λ k. Copies D.Digest.SIZE D.Digest.image D.Digest.valid b k) (λ e. TooShort D.Digest.SIZE b (refusal_of e)) };
+
+    fn try_from(borrowed: KeyRef<'_>) -> Result<Key<D>, ReadError> {
+        match borrowed {
             KeyRef::Block(part) => match D::read(part) {
                 Some(digest) => Ok(Key::Block(digest)),
                 None => Err(ReadError::Truncated {

@@ -37,10 +37,7 @@ fn writes(key: &Key<u64>, bytes: &[u8]) -> bool
     ensures { key_bytes big_endian key.now ≡ bytes.now → length bytes.now ≤ 32 → result ≡ true }
 {
     let mut out = [0u8; 32];
-    match key.write(&mut out) {
-        Ok(size) => &out[0..size] == bytes,
-        Err(_) => false,
-    }
+    key.write(&mut out) == Ok(bytes.len()) && out.starts_with(bytes)
 }
 
 /// The refusal that reading these bytes meets.
@@ -48,10 +45,7 @@ fn refusal_of(bytes: &[u8]) -> Option<Refusal<Location>>
     ensures { (f : RefusalOf LocationOf) → Refuses 8 bytes.now f → result ≡ Some f }
 {
     let mut key = Key::Block(0u64);
-    match Key::read(bytes, &mut key) {
-        Ok(_) => None,
-        Err(e) => Some(e.refusal()),
-    }
+    Key::read(bytes, &mut key).err().map(|e| Refusal::from(e))
 }
 
 /// What the examples come to when they are run.
@@ -84,7 +78,7 @@ pub fn copy_then_overwrite(bytes: &mut [u8]) -> Result<Key<u64>, ReadError>
     ensures { MatchResult result (λ k. KeyAt big_endian (λ n. n < 2 ^ 64) bytes.old k (drop (length (key_bytes big_endian k)) bytes.old) × (bytes.new ≡ slice_set bytes.old 0 255)) (λ e. Refuses 8 bytes.old (refusal_of e) × (bytes.new ≡ bytes.old)) }
 {
     let (borrowed, _) = KeyRef::read::<u64>(bytes)?;
-    let key = borrowed.to_key()?;
+    let key = Key::try_from(borrowed)?;
     bytes[0] = 0xFF;
     Ok(key)
 }

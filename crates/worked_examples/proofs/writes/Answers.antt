@@ -1,17 +1,14 @@
-use Rattle.std.proofs.Common.{◌≡◌, ℕ, ◌-◌, List, take, drop, sym, ap, ◌∙◌}
-use native.Mathlib.Nat.{sub-zero}
-use Rattle.std.proofs.lemmas.Slice.Eq.{slice_eq-Decides}
-use Rattle.std.proofs.lemmas.List.{take_at}
-use Rattle.digests.specs.BigEndian.{big_endian}
-use Rattle.keys.specs.Keys.{key_bytes}
-use Rattle.worked_examples.proofs.writes.Goals as goal
+use Rattle.std.proofs.Common.{rules, ◌≡◌, length, Ok, List, ℕ, ◌++◌, subst}
 use Rattle.std.proofs.lemmas.Bool.Decides.{Decides-eqb}
+use Rattle.std.proofs.lemmas.Result.{MatchResult-at_ok}
+use Rattle.std.proofs.lemmas.Slice.Eq.{starts_is}
+use Rattle.worked_examples.proofs.writes.Goals as goal
 
-pub returns-in-Ok : goal.returns-in-Ok
-returns-in-Ok c e l =
-    let w = c.in-Ok.ensures.writes in
-    let n : ℕ = c.in-Ok.size in
-    let x : List ℕ = key_bytes big_endian c.args.key.now in
-    let f : take (n - 0) c.write.new.out ≡ c.args.bytes.now =
-    ap (λ (j : ℕ). take j c.write.new.out) (sub-zero n) ∙ ap (take n) w.2 ∙ take_at x (drop n _) n (sym w.0) ∙ e in
-    (slice_eq-Decides Decides-eqb _ _ _ c.eq.ensures).1 f
+front : (out rest xs ys : List ℕ) → out ≡ xs ++ rest → xs ≡ ys → out ≡ ys ++ rest
+front out rest xs ys h e = subst (λ (zs : List ℕ). out ≡ zs ++ rest) e h
+
+pub returns-then-eq : goal.returns-then-eq
+returns-then-eq c e l =
+    let q : c.write.result ≡ Ok (length c.args.bytes.now) = search rules in
+    let w = MatchResult-at_ok _ _ _ q c.write.ensures.writes in
+    (starts_is Decides-eqb _ _ _ c.starts_with.ensures.value).1 _ (front _ _ _ _ w.2 e)
