@@ -12,25 +12,27 @@ pub use ring::{Filter, place, sweep};
 use std::fmt;
 
 /// The first `size` slots of lent memory, found to be there; the size is from `LEAST` to `MOST`. Only `check` makes one.
+// The whole lent slice beside the size: contracts speak of the memory beyond, which no call touches.
 #[derive(Drop)]
 pub struct Memory<'a, T, const LEAST: usize, const MOST: usize> {
     slots: &'a mut [T],
     size: usize,
+    pub ghost fits: { Fits LEAST MOST size (length slots.now) },
 }
 
 /// Why nothing was made of lent memory.
-#[derive(Clone, Copy)]
+#[derive(Clone, Copy, Debug, PartialEq, Eq)]
 pub enum MemoryError {
     /// The size is outside its limits, or the memory is shorter than the size.
     Unfit,
 }
 
 /// No slot is free.
-#[derive(Clone, Copy)]
+#[derive(Clone, Copy, Debug, PartialEq, Eq)]
 pub struct Full;
 
 /// What a refusal hands back that tells no more than its number.
-#[derive(Clone, Copy)]
+#[derive(Clone, Copy, Debug, PartialEq, Eq)]
 pub struct Nothing;
 
 impl fmt::Display for Nothing {
@@ -41,11 +43,11 @@ impl fmt::Display for Nothing {
     }
 }
 
-impl MemoryError {
-    pub fn refusal(&self) -> Refusal<Nothing>
-        ensures { result ≡ refusal_of self.now }
-    {
-        match *self {
+impl From<MemoryError> for Refusal<Nothing> {
+    ghost from_gives = { λ e r. r ≡ refusal_of e };
+
+    fn from(e: MemoryError) -> Refusal<Nothing> {
+        match e {
             MemoryError::Unfit => Refusal {
                 number: 6,
                 values: Nothing,

@@ -8,12 +8,12 @@ pub fn place(room: usize, head: usize, i: usize) -> usize
     ensures value { result ≡ placed room (min head room) i }
     ensures bound { i < room → result < room }
 {
-    let head = head.min(room);
-    let behind = room - head;
+    let behind = room.saturating_sub(head);
     if i < behind { head + i } else { i - behind }
 }
 
-/// A named test of a sweep, where Rust has a closure: which entries stay, and what the test notes of each.
+/// A named test of a sweep: which entries stay, and what the test notes of each.
+// No closure: a law over whole runs applies `passes` and `noted` to any entry, and a closure's clauses relate only its calls.
 pub trait Filter<T> {
     ghost passes: { Self → T → Bool };
 
@@ -35,28 +35,14 @@ pub fn sweep<T: Copy, S: Filter<T>>(
 ) -> usize
     ensures { Swept S.Filter.passes S.Filter.noted test.old test.new slots.old slots.new size head len result }
 {
-    close_up(slots, size, head, len, test)
-}
-
-/// The loop of a sweep, with its proof.
-fn close_up<T: Copy, S: Filter<T>>(
-    slots: &mut [T],
-    size: usize,
-    head: usize,
-    len: usize,
-    test: &mut S,
-) -> usize
-    ensures { Swept S.Filter.passes S.Filter.noted test.old test.new slots.old slots.new size head len result }
-{
+    // Any numbers will do, since a public function asks nothing of its callers; a struct of them could not hold them to the slice.
     let room = size.min(slots.len());
-    let len = len.min(room);
     let mut count = 0;
-    for i in 0..len {
-        let from = place(room, head, i);
-        let entry = slots[from];
+    // By index, since what stays is written to places of the slice that is read.
+    for i in 0..len.min(room) {
+        let entry = slots[place(room, head, i)];
         if test.keep(&entry) {
-            let to = place(room, head, count);
-            slots[to] = entry;
+            slots[place(room, head, count)] = entry;
             count += 1;
         }
     }

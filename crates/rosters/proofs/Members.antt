@@ -1,8 +1,8 @@
 -- A table of numbers as a set, and what its calls do to the set. Assumes nothing.
-use Rattle.std.proofs.Common.{◌≡◌, ℕ, zero, suc, ◌<◌, Bool, true, false, cond, not, ◌&&◌, ◌||◌, eqb, ltb, List, [], ◌∷◌, length, get_or, is_some, Some, None, Ok, Option, sym, refl, ap, ◌∙◌, inl, inr, ⊎_elim, arith}
+use Rattle.std.proofs.Common.{◌≡◌, ℕ, zero, suc, Bool, true, false, cond, not, ◌&&◌, ◌||◌, eqb, nat_lt, List, [], ◌∷◌, length, is_some, Some, None, Ok, Option, sym, refl, ap, ◌∙◌, subst, inl, inr, ⊎_elim, arith}
 use Rattle.std.proofs.lemmas.Bool.{cases_Bool, cases_eq, eqb-true, eq-eqb, ne_eqb, or_cases, or_left, or_right, both_ways, cond-true, cond-false, lt-ltb, and_parts, and_from}
 use Rattle.table.specs.declared.Entry.{Entry}
-use Rattle.table.specs.Edits.{Inserted}
+use Rattle.table.specs.Edits.{Inserted, Removed}
 use Rattle.table.specs.Maps.{entry_of, Holds, Absent, Sole, Lookup, Assigned, Without}
 use Rattle.rosters.specs.Members.{among, absent}
 use Rattle.rosters.specs.Sets.{added, removed, Leaves, Enters}
@@ -14,20 +14,17 @@ same_test a b f g =
     (λ h. ⊎_elim (λ k. absurd (both_ways a h (g k))) (λ k. h ∙ sym k) (cases_Bool b))
     (cases_Bool a)
 
-at_among : (es : List (Entry ℕ (Unit {0}))) (n k : ℕ) → k < length es → ((d : Entry ℕ (Unit {0})) → get_or es k d ≡ entry_of n tt) → among es n ≡ true
-at_among [] n k lt at = absurd (omega arith)
-at_among (e ∷ es) n zero lt at = let q : n ≡ e.key = sym (ap (λ (x : Entry ℕ (Unit {0})). x.key) (at e)) in or_left (eqb n e.key) (among es n) (eq-eqb n e.key q)
-at_among (e ∷ es) n (suc k) lt at = or_right (eqb n e.key) (among es n) (at_among es n k (omega arith) at)
-
 pub holds_among : (es : List (Entry ℕ (Unit {0}))) (n : ℕ) → Holds es n tt → among es n ≡ true
-holds_among es n h = at_among es n h.0 h.1 h.2
+holds_among [] n (k, lt, at) = absurd (omega arith)
+holds_among (e ∷ es) n (zero, lt, at) = or_left (eqb n e.key) (among es n) (eq-eqb n e.key (sym (ap (λ (x : Entry ℕ (Unit {0})). x.key) at)))
+holds_among (e ∷ es) n (suc k, lt, at) = or_right (eqb n e.key) (among es n) (holds_among es n (k, omega arith, at))
 
 pub among_holds : (es : List (Entry ℕ (Unit {0}))) (n : ℕ) → among es n ≡ true → Holds es n tt
 among_holds [] n h = absurd (both_ways false refl h)
 among_holds (e ∷ es) n h =
     ⊎_elim
-    (λ q. (0, omega arith, λ d. ap (λ k. entry_of k tt) (sym (eqb-true n e.key q))))
-    (λ q. let r = among_holds es n q in (suc r.0, omega (arith, r.1), λ d. r.2 d))
+    (λ q. (0, omega arith, ap (λ k. entry_of k tt) (sym (eqb-true n e.key q))))
+    (λ q. let r = among_holds es n q in (suc r.0, omega (arith, r.1), r.2))
     (or_cases (eqb n e.key) (among es n) h)
 
 module _ (xs ys : List (Entry ℕ (Unit {0}))) (k : ℕ) where
@@ -116,8 +113,14 @@ module _ (xs : List (Entry ℕ (Unit {0}))) (k : ℕ) where
         count = elim place as (λ t. 0 ≡ cond (t && absent xs k) 1 0) [ true ↦ ap (λ b. cond (not b) 1 0) (sym in') | false ↦ refl ];
       }
 
+-- a remove, by the value that stood there
+pub leaves_removed : (xs ys : List (Entry ℕ (Unit {0}))) (k : ℕ) (old : Option (Unit {0})) → Removed nat_lt xs k ys old
+    → Leaves (absent xs) (absent ys) k (cond (is_some old) 1 0)
+leaves_removed xs ys k None d = subst (λ zs. Leaves (absent xs) (absent zs) k 0) (sym d.1) (leaves_nobody xs k d.0)
+leaves_removed xs ys k (Some v) d = leaves_member xs ys k d.was d.map
+
 -- an insert that was not refused, by what stood there before
-pub enters_inserted : (xs ys : List (Entry ℕ (Unit {0}))) (k cap : ℕ) (old : Option (Unit {0})) → Inserted ltb xs k cap tt ys (Ok old)
-    → Enters (ltb (length xs) cap) (absent xs) (absent ys) k (cond (is_some old) 0 1)
-enters_inserted xs ys k cap None d = enters_member xs ys k (ltb (length xs) cap) (lt-ltb (length xs) cap d.1) d.0.was d.0.map
-enters_inserted xs ys k cap (Some v) d = enters_again xs k ys (ltb (length xs) cap) d.was d.map
+pub enters_inserted : (xs ys : List (Entry ℕ (Unit {0}))) (k room : ℕ) (old : Option (Unit {0})) → Inserted nat_lt xs k room tt ys (Ok old)
+    → Enters (nat_lt (length xs) room) (absent xs) (absent ys) k (cond (not (is_some old)) 1 0)
+enters_inserted xs ys k room None d = enters_member xs ys k (nat_lt (length xs) room) (lt-ltb (length xs) room d.1) d.0.was d.0.map
+enters_inserted xs ys k room (Some v) d = enters_again xs k ys (nat_lt (length xs) room) d.was d.map

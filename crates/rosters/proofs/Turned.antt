@@ -1,51 +1,32 @@
 -- One bit of a row is turned. Assumes nothing.
-use Rattle.std.proofs.Common.{◌≡◌, ℕ, suc, ◌+◌, ◌-◌, ◌*◌, ◌/◌, ◌%◌, ◌^◌, ◌<◌, cond, not, eqb, List, length, get_or, set, sym, ap, ◌∙◌, ⊎_elim, arith, pow-add}
-use native.Mathlib.Nat.{div-eq_of_lt, mul-mod_left}
-use lib.Bits.{bit_xor, xor_zero_r, xor_shr, xor_mod}
-use Rattle.std.proofs.lemmas.Nat.{shl-shr, pow_below, div-add-mod'}
+use Rattle.std.proofs.Common.{◌≡◌, ℕ, ◌+◌, ◌/◌, ◌%◌, ◌^◌, ◌<◌, cond, not, eqb, List, length, get_or, set, sym, ap, ◌∙◌, ⊎_elim, arith}
+use lib.Bits.{bit_xor}
+use Rattle.std.proofs.lemmas.Nat.{div-add-mod'}
+use Rattle.std.proofs.lemmas.Nat.Bits.{bit_at_xor, bit_at-pow_same, bit_at-pow_other}
 use Rattle.std.proofs.lemmas.List.{get_or-set_same, get_or-set_other}
-use Rattle.std.proofs.lemmas.Bool.{cases_eq, cases_lt, eq-eqb, ne_eqb, cond-true, cond-false}
+use Rattle.std.proofs.lemmas.Bool.{cases_eq, eq-eqb, ne_eqb, cond-true, cond-false}
 use Rattle.rosters.specs.Bits.{bit_set}
 
--- a power of two has one bit
-own_bit : (k : ℕ) → 2 ^ k / 2 ^ k % 2 ≡ 1
-own_bit k =
-    let e : 1 * 2 ^ k ≡ 2 ^ k = omega arith in
-    ap (λ n. n / 2 ^ k % 2) (sym e) ∙ ap (λ n. n % 2) (shl-shr 1 k)
-
-other_bit : (k j : ℕ) → (j ≡ k → ⊥) → 2 ^ k / 2 ^ j % 2 ≡ 0
-other_bit k j ne =
-    ⊎_elim
-    (λ lt.
-    let d : ℕ = k - suc j in
-    let split : k ≡ (d + 1) + j = omega arith in
-    let two : 2 ^ (d + 1) ≡ 2 ^ d * 2 = pow-add 2 d 1 in
-    ap (λ n. 2 ^ n / 2 ^ j % 2) split ∙ ap (λ n. n / 2 ^ j % 2) (pow-add 2 (d + 1) j) ∙ ap (λ n. n % 2) (shl-shr (2 ^ (d + 1)) j) ∙ ap (λ n. n % 2) two ∙ mul-mod_left (2 ^ d) 2)
-    (λ le. let low : k < j = omega arith in ap (λ n. n % 2) (div-eq_of_lt (pow_below k j low)))
-    (cases_lt j k)
-
--- the bit j of a byte of which the bit k is turned
-xor_bit : (b k j : ℕ) → bit_xor b (2 ^ k) / 2 ^ j % 2 ≡ bit_xor (b / 2 ^ j % 2) (2 ^ k / 2 ^ j % 2)
-xor_bit b k j = ap (λ n. n % 2) (xor_shr b (2 ^ k) j) ∙ xor_mod (b / 2 ^ j) (2 ^ k / 2 ^ j) 1
-
--- what is below two
-turn_one : (y : ℕ) → y < 2 → eqb (bit_xor y 1) 1 ≡ not (eqb y 1)
+-- one more, of what is below two
+turn_one : (y : ℕ) → y < 2 → eqb ((y + 1) % 2) 1 ≡ not (eqb y 1)
 turn_one y lt =
     ⊎_elim
-    (λ z. ap (λ n. eqb (bit_xor n 1) 1) z ∙ ap (λ n. not (eqb n 1)) (sym z))
-    (λ nz. let o : y ≡ 1 = omega arith in ap (λ n. eqb (bit_xor n 1) 1) o ∙ ap (λ n. not (eqb n 1)) (sym o))
+    (λ z. ap (λ n. eqb ((n + 1) % 2) 1) z ∙ ap (λ n. not (eqb n 1)) (sym z))
+    (λ nz. let o : y ≡ 1 = omega arith in ap (λ n. eqb ((n + 1) % 2) 1) o ∙ ap (λ n. not (eqb n 1)) (sym o))
     (cases_eq y 0)
 
+-- the bit j of a byte of which the bit k is turned
 pub turned_byte : (b k j : ℕ) → eqb (bit_xor b (2 ^ k) / 2 ^ j % 2) 1 ≡ cond (eqb j k) (not (eqb (b / 2 ^ j % 2) 1)) (eqb (b / 2 ^ j % 2) 1)
 turned_byte b k j =
-    ap (λ n. eqb n 1) (xor_bit b k j) ∙
+    let y : ℕ = b / 2 ^ j % 2 in
+    let low : y < 2 = omega arith in
+    let same : (y + 0) % 2 ≡ y = omega arith in
+    ap (λ n. eqb n 1) (bit_at_xor b (2 ^ k) j) ∙
     ⊎_elim
     (λ e.
-    ap (λ n. eqb (bit_xor (b / 2 ^ j % 2) n) 1) (ap (λ n. 2 ^ k / 2 ^ n % 2) e ∙ own_bit k)
-    ∙ turn_one (b / 2 ^ j % 2) (omega arith) ∙ sym (cond-true (eqb j k) (not (eqb (b / 2 ^ j % 2) 1)) (eqb (b / 2 ^ j % 2) 1) (eq-eqb j k e)))
+    ap (λ n. eqb ((y + n) % 2) 1) (ap (λ i. 2 ^ k / 2 ^ i % 2) e ∙ bit_at-pow_same k) ∙ turn_one y low ∙ sym (cond-true (eqb j k) (not (eqb y 1)) (eqb y 1) (eq-eqb j k e)))
     (λ ne.
-    ap (λ n. eqb (bit_xor (b / 2 ^ j % 2) n) 1) (other_bit k j ne)
-    ∙ ap (λ n. eqb n 1) (xor_zero_r (b / 2 ^ j % 2)) ∙ sym (cond-false (eqb j k) (not (eqb (b / 2 ^ j % 2) 1)) (eqb (b / 2 ^ j % 2) 1) (ne_eqb j k ne)))
+    ap (λ n. eqb ((y + n) % 2) 1) (bit_at-pow_other k j ne) ∙ ap (λ n. eqb n 1) same ∙ sym (cond-false (eqb j k) (not (eqb y 1)) (eqb y 1) (ne_eqb j k ne)))
     (cases_eq j k)
 
 -- the row, with the bit of one place turned

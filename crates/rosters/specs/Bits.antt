@@ -1,5 +1,13 @@
 -- A row of bits: eight places to a byte, the first at its lowest bit. Assumes nothing.
-use Rattle.std.specs.Prelude.{ℕ, ◌/◌, ◌%◌, ◌^◌, Bool, true, cond, ◌&&◌, List, length, ◌==◌, nat_lt, slice_index}
+use Rattle.std.specs.Prelude.{ℕ, ◌+◌, ◌*◌, ◌/◌, ◌%◌, ◌^◌, ◌≤◌, min, Bool, true, cond, ◌&&◌, List, length, ◌==◌, nat_lt, slice_index}
+
+-- how many bytes so many places take
+abbrev pub bytes_for : ℕ → ℕ
+bytes_for places = places / 8 + min (places % 8) 1
+
+-- at most 65,536 places, and memory with a bit for each
+abbrev pub FitsBits : ℕ → ℕ → Type 0
+FitsBits places bytes = (places ≤ 65536) × (places ≤ 8 * bytes)
 
 -- whether the bit at a place is set
 abbrev pub bit_set : List ℕ → ℕ → Bool

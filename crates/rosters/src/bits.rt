@@ -1,9 +1,8 @@
 //! A roster as a row of bits.
-ghost use Rattle.std.specs.Prelude.{◌≡◌, ℕ, ◌/◌, ◌<◌, ◌≤◌, Bool, true, false, not, length, drop, if◌then◌else◌, MatchResult, nat_eq, slice_index};
+ghost use Rattle.std.specs.Prelude.{◌≡◌, ℕ, ◌/◌, ◌<◌, Bool, true, false, not, length, drop, if◌then◌else◌, MatchResult, nat_eq};
 ghost use Rattle.refusals.specs.Refusals.{refusal};
 ghost use Rattle.memory.specs.Memories.{nothing, refusal_of};
-ghost use Rattle.rosters.specs.Bits.{bit_set, has_place, bits_left};
-ghost use Rattle.rosters.specs.Places.{FitsBits, bytes_for, place_in, left_in, beyond, Kept};
+ghost use Rattle.rosters.specs.Bits.{FitsBits, bit_set, bits_left, bytes_for, has_place};
 ghost use Rattle.rosters.specs.Sets.{Leaves, Enters};
 
 use crate::Roster;
@@ -13,17 +12,18 @@ use memory::MemoryError;
 pub const MOST_PLACES: usize = 65536;
 
 /// Memory with a bit for each of so many places. Only `check` makes one.
+// The whole lent slice beside the places: contracts speak of the memory beyond, which no call touches.
 #[derive(Drop)]
 pub struct BitMemory<'a> {
     bits: &'a mut [u8],
     places: usize,
+    ghost fits: { FitsBits places (length bits.now) },
 }
 
 /// Who has left, as a row of bits in lent memory: the bit of one who has left is set. Numbers that have no place have left.
 #[derive(Drop)]
 pub struct BitRoster<'a> {
-    bits: &'a mut [u8],
-    places: usize,
+    memory: BitMemory<'a>,
 }
 
 impl<'a> BitMemory<'a> {
@@ -35,6 +35,23 @@ impl<'a> BitMemory<'a> {
             return Err(MemoryError::Unfit);
         }
         Ok(BitMemory { bits, places })
+    }
+
+    /// Puts down whether a requester has left, if there is a place for it, and says whether that is new.
+    fn mark(&mut self, requester: u32, left: bool) -> bool
+        ensures leaves { left ≡ true → Leaves (bits_left self.old.bits.now self.old.places) (bits_left self.new.bits.now self.new.places) requester (if result then 1 else 0) }
+        ensures enters { left ≡ false → Enters (has_place self.old.bits.now self.old.places requester) (bits_left self.old.bits.now self.old.places) (bits_left self.new.bits.now self.new.places) requester (if result then 1 else 0) }
+        ensures places { (self.new.places ≡ self.old.places) × (length self.new.bits.now ≡ length self.old.bits.now) }
+        ensures beyond { drop (bytes_for self.new.places) self.new.bits.now ≡ drop (bytes_for self.old.places) self.old.bits.now }
+    {
+        let place = requester as usize;
+        let places = self.places;
+        let bits = &mut *self.bits;
+        if place >= places || bit(bits, place) == left {
+            return false;
+        }
+        flip(bits, place);
+        true
     }
 }
 
@@ -55,40 +72,21 @@ fn flip(bits: &mut [u8], place: usize)
     bits[place / 8] ^= 1 << (place % 8);
 }
 
-/// Clears the first bytes.
-fn clear(bits: &mut [u8], bytes: usize)
-    ensures clear { (k : ℕ) → k < bytes → slice_index bits.new k ≡ 0 }
-    ensures rest { drop bytes bits.new ≡ drop bytes bits.old }
-{
-    for i in 0..bytes.min(bits.len()) {
-        bits[i] = 0;
-    }
-}
-
-/// Puts down whether a requester has left, if there is a place for it; 1 if that is new, else 0.
-fn mark(bits: &mut [u8], places: usize, requester: u32, left: bool) -> usize
-    ensures leaves { left ≡ true → Leaves (bits_left bits.old places) (bits_left bits.new places) requester result }
-    ensures enters { left ≡ false → Enters (has_place bits.old places requester) (bits_left bits.old places) (bits_left bits.new places) requester result }
-    ensures rest { drop (bytes_for places) bits.new ≡ drop (bytes_for places) bits.old }
-{
-    let place = requester as usize;
-    if place >= places || place / 8 >= bits.len() || bit(bits, place) == left {
-        return 0;
-    }
-    flip(bits, place);
-    1
-}
-
 impl<'a> BitRoster<'a> {
+    // Here and not at the top, since these definitions name the types.
+    ghost use Rattle.rosters.specs.Places.{place_in, left_in, beyond, Kept};
+
     /// A roster from which nobody who has a place has left.
     pub fn new(memory: BitMemory<'a>) -> BitRoster<'a>
         ensures left { (n : ℕ) → left_in result n ≡ not (place_in result n) }
-        ensures places { (result.places ≡ memory.entry.places) × (length result.bits.now ≡ length memory.entry.bits.now) }
+        ensures places { (result.memory.places ≡ memory.entry.places) × (length result.memory.bits.now ≡ length memory.entry.bits.now) }
         ensures beyond { beyond result ≡ drop (bytes_for memory.entry.places) memory.entry.bits.now }
     {
         let BitMemory { bits, places } = memory;
-        clear(bits, places / 8 + (places % 8).min(1));
-        BitRoster { bits, places }
+        bits[..places.div_ceil(8)].fill(0);
+        BitRoster {
+            memory: BitMemory { bits, places },
+        }
     }
 
     /// A requester leaves: 1 if it had not left before, else 0.
@@ -96,8 +94,7 @@ impl<'a> BitRoster<'a> {
         ensures leaves { Leaves (left_in self.old) (left_in self.new) requester result }
         ensures kept { Kept self.old self.new }
     {
-        let places = self.places;
-        mark(self.bits, places, requester, true)
+        usize::from(self.memory.mark(requester, true))
     }
 
     /// A requester enters, where there is a place for it: 1 if it had left before, else 0.
@@ -105,19 +102,20 @@ impl<'a> BitRoster<'a> {
         ensures enters { Enters (place_in self.old requester) (left_in self.old) (left_in self.new) requester result }
         ensures kept { Kept self.old self.new }
     {
-        let places = self.places;
-        mark(self.bits, places, requester, false)
+        usize::from(self.memory.mark(requester, false))
     }
 }
 
 impl<'a> Roster for BitRoster<'a> {
+    ghost use Rattle.rosters.specs.Places.{left_in};
+
     ghost left = { left_in };
 
     fn has_left(&self, requester: u32) -> bool
         ensures { result ≡ left_in self.now requester }
     {
         let place = requester as usize;
-        let bits = &*self.bits;
-        place >= self.places || place / 8 >= bits.len() || bit(bits, place)
+        let bits = &*self.memory.bits;
+        place >= self.memory.places || bit(bits, place)
     }
 }

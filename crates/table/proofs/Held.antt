@@ -1,9 +1,8 @@
 -- A list that a key parts, as a map. Assumes nothing.
-use Rattle.std.proofs.Common.{◌≡◌, zero, suc, ◌-◌, Bool, true, ◌⊎◌, List, ◌∷◌, ◌++◌, length, sym, refl, ap, ◌∙◌, subst, inl, inr, arith, length-append}
-use Rattle.std.specs.List.{ContainsAt}
-use Rattle.std.proofs.lemmas.List.{get_or_append_left, get_or-append_right}
-use Rattle.std.proofs.ByRecursion.{all-has, has_append_left, has_append_right}
-use Rattle.std.proofs.lemmas.Bool.{cases_lt, both_ways}
+use Rattle.std.proofs.Common.{◌≡◌, zero, suc, Bool, true, ◌⊎◌, List, ◌∷◌, ◌++◌, sym, refl, ap, ◌∙◌, subst, inl, inr, arith}
+use Rattle.std.specs.List.{Contains}
+use Rattle.std.proofs.lemmas.List.Elements.{Contains-append_left, Contains-append_right, Contains-append_cases, All-contains}
+use Rattle.std.proofs.lemmas.Bool.{both_ways}
 use Rattle.order.specs.Orders.{Total}
 use Rattle.order.specs.Totals.{irreflexive}
 use Rattle.table.specs.declared.Entry.{Entry}
@@ -11,39 +10,31 @@ use Rattle.table.specs.Maps.{entry_of, Holds, Absent, Sole, Assigned, Without}
 use Rattle.table.specs.Orders.{Around}
 
 module _ {X : Type 0} where
-  has_cases : (xs ys : List X) (x : X) → ContainsAt (xs ++ ys) x → ContainsAt xs x ⊎ ContainsAt ys x
-  has_cases xs ys x (i, lt, at) =
-      let n = length-append xs ys in
-      elim (cases_lt i (length xs)) [
-        | inl l ↦ inl (i, l, λ d. sym (get_or_append_left xs ys d i l) ∙ at d)
-        | inr l ↦ inr (i - length xs, omega arith, λ d. sym (get_or-append_right xs ys (length xs) i d refl l) ∙ at d)
-      ]
+  has_first : (x : X) (xs : List X) → Contains (x ∷ xs) x
+  has_first x xs = (0, omega arith, refl)
 
-  has_first : (x : X) (xs : List X) → ContainsAt (x ∷ xs) x
-  has_first x xs = (0, omega arith, λ d. refl)
-
-  has_behind : (y : X) (xs : List X) (x : X) → ContainsAt xs x → ContainsAt (y ∷ xs) x
+  has_behind : (y : X) (xs : List X) (x : X) → Contains xs x → Contains (y ∷ xs) x
   has_behind y xs x (i, lt, at) = (suc i, omega arith, at)
 
-  has_cons_cases : (y : X) (xs : List X) (x : X) → ContainsAt (y ∷ xs) x → (y ≡ x) ⊎ ContainsAt xs x
-  has_cons_cases y xs x (zero, lt, at) = inl (at y)
+  has_cons_cases : (y : X) (xs : List X) (x : X) → Contains (y ∷ xs) x → (y ≡ x) ⊎ Contains xs x
+  has_cons_cases y xs x (zero, lt, at) = inl at
   has_cons_cases y xs x (suc i, lt, at) = inr (i, omega arith, at)
 
 module _ {K V : Type 0} (less : K → K → Bool) (total : Total less) (front : List (Entry K V)) (k : K) (back : List (Entry K V))
     (a : Around less front k back) where
   front_apart : (j : K) (v : V) → Holds front j v → j ≡ k → ⊥
   front_apart j v h e =
-      let lt : less j k ≡ true = all-has (λ x. less x.key k ≡ true) front (entry_of j v) a.below h in
+      let lt : less j k ≡ true = All-contains (λ x. less x.key k ≡ true) front (entry_of j v) a.below h in
       both_ways (less k k) (irreflexive total k) (ap (λ q. less q k) (sym e) ∙ lt)
 
   back_apart : (j : K) (v : V) → Holds back j v → j ≡ k → ⊥
   back_apart j v h e =
-      let lt : less k j ≡ true = all-has (λ x. less k x.key ≡ true) back (entry_of j v) a.above h in
+      let lt : less k j ≡ true = All-contains (λ x. less k x.key ≡ true) back (entry_of j v) a.above h in
       both_ways (less k k) (irreflexive total k) (ap (less k) (sym e) ∙ lt)
 
   -- what both parts hold is held under another key
   apart : (j : K) (v : V) → Holds (front ++ back) j v → j ≡ k → ⊥
-  apart j v h = elim (has_cases front back (entry_of j v) h) [ inl p ↦ front_apart j v p | inr p ↦ back_apart j v p ]
+  apart j v h = elim (Contains-append_cases front back (entry_of j v) h) [ inl p ↦ front_apart j v p | inr p ↦ back_apart j v p ]
 
   pub absent_around : Absent (front ++ back) k
   absent_around = record { none = λ v h. apart k v h refl }
@@ -54,22 +45,22 @@ module _ {K V : Type 0} (less : K → K → Bool) (total : Total less) (front : 
     whole = front ++ entry_of k u ∷ back
 
     there : Holds whole k u
-    there = has_append_right front (entry_of k u ∷ back) (entry_of k u) (has_first (entry_of k u) back)
+    there = Contains-append_right front (entry_of k u ∷ back) (entry_of k u) (has_first (entry_of k u) back)
 
     into : (j : K) (v : V) → Holds (front ++ back) j v → Holds whole j v
     into j v h =
-        elim (has_cases front back (entry_of j v) h) [
-          | inl p ↦ has_append_left front (entry_of k u ∷ back) (entry_of j v) p
-          | inr p ↦ has_append_right front (entry_of k u ∷ back) (entry_of j v) (has_behind (entry_of k u) back (entry_of j v) p)
+        elim (Contains-append_cases front back (entry_of j v) h) [
+          | inl p ↦ Contains-append_left front (entry_of k u ∷ back) (entry_of j v) p
+          | inr p ↦ Contains-append_right front (entry_of k u ∷ back) (entry_of j v) (has_behind (entry_of k u) back (entry_of j v) p)
         ]
 
     out_of : (j : K) (v : V) → Holds whole j v → ((k ≡ j) × (u ≡ v)) ⊎ Holds (front ++ back) j v
     out_of j v h =
-        elim (has_cases front (entry_of k u ∷ back) (entry_of j v) h) [
-          | inl p ↦ inr (has_append_left front back (entry_of j v) p)
+        elim (Contains-append_cases front (entry_of k u ∷ back) (entry_of j v) h) [
+          | inl p ↦ inr (Contains-append_left front back (entry_of j v) p)
           | inr q ↦ elim (has_cons_cases (entry_of k u) back (entry_of j v) q) [
             | inl e ↦ inl (ap (λ x. x.key) e, ap (λ x. x.value) e)
-            | inr p ↦ inr (has_append_right front back (entry_of j v) p)
+            | inr p ↦ inr (Contains-append_right front back (entry_of j v) p)
           ]
         ]
 

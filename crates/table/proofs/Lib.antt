@@ -1,8 +1,7 @@
+pub mod Compared
 pub mod Edited
-pub mod Fronts
 pub mod Held
+pub mod Moved
 pub mod Ordered
-pub mod Shifts
-pub mod Slots
+pub mod Rows
 pub mod Swept
-pub mod Tests

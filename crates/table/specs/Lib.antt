@@ -3,4 +3,3 @@ pub mod Orders
 pub mod Searches
 pub mod Edits
 pub mod Tables
-pub mod Tested

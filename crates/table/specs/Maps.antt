@@ -1,6 +1,6 @@
 -- A list of entries as a map: which value it holds under which key. Assumes nothing.
 use Rattle.std.specs.Prelude.{◌≡◌, ◌⊎◌, List, Some, None, Option, ◌≢◌}
-use Rattle.std.specs.List.{ContainsAt}
+use Rattle.std.specs.List.{Contains}
 use Rattle.table.specs.declared.Entry.{Entry}
 
 -- each of two statements follows from the other
@@ -12,7 +12,7 @@ entry_of k v = record { key = k; value = v }
 
 -- the value v is held under the key k
 abbrev pub Holds : {K V : Type 0} → List (Entry K V) → K → V → Type 0
-Holds xs k v = ContainsAt xs (entry_of k v)
+Holds xs k v = Contains xs (entry_of k v)
 
 -- no value is held under k
 pub record Absent {K V : Type 0} (xs : List (Entry K V)) (k : K) : Type 0 where

@@ -1,0 +1,48 @@
+use Rattle.std.proofs.Common.{◌+◌, ◌-◌, ◌<◌, length, set, refl, ◌∙◌, arith, length-take, length-set, rules}
+use Rattle.std.proofs.lemmas.List.{drop-set-lt}
+use Rattle.table.specs.Maps.{entry_of}
+use Rattle.table.specs.Tables.{items, capacity}
+use Rattle.table.proofs.Moved.{beyond_part}
+use Rattle.table.proofs.Rows.{row_replaced, row_added}
+use Rattle.table.proofs.Table.insert.Goals as goal
+
+pub invariant_of-self-clause-rising : goal.invariant_of-self-clause-rising
+invariant_of-self-clause-rising g c =
+    let t = c.args.self.now in
+    let e = c.in-Ok.ensures in
+    (row_replaced g.K.TotalOrder.less g.met.K.TotalOrder.total t.slots.now t.len t.rising c.args.key c.in-Ok.i e.value e.within c.index-slots-i.result c.replace.new.dest).0
+
+pub invariant_of-self-in-Err-2-clause-rising : goal.invariant_of-self-in-Err-2-clause-rising
+invariant_of-self-in-Err-2-clause-rising g c =
+    let t = c.args.self.now in
+    let e = c.in-Err.ensures in
+    (row_added g.K.TotalOrder.less g.met.K.TotalOrder.total t.slots.now t.len t.rising c.args.key c.in-Err.i e.value e.within (search rules) c.args.value c.rotate_right.new.self (search rules)).0
+
+pub returns-in-Ok-clause-value : goal.returns-in-Ok-clause-value
+returns-in-Ok-clause-value g c =
+    let t = c.args.self.now in
+    let e = c.in-Ok.ensures in
+    let done = row_replaced g.K.TotalOrder.less g.met.K.TotalOrder.total t.slots.now t.len t.rising c.args.key c.in-Ok.i e.value e.within c.index-slots-i.result c.args.value in
+    search rules
+
+pub returns-else-self-clause-kept : goal.returns-else-self-clause-kept
+returns-else-self-clause-kept g c =
+    let t = c.args.self.now in
+    let slots = t.slots.now in
+    let e = entry_of c.args.key c.args.value in
+    let wide = length-take t.len slots in
+    let free : t.len < t.size = search rules in
+    record {
+      room = refl;
+      rest =
+          beyond_part (set slots t.len e) c.rotate_right.new.self c.in-Err.i (t.len + 1 - c.in-Err.i) t.size (omega (arith, c.in-Err.ensures.within)) (simp length-set t.fits) c.rotate_right.ensures.len
+          ∙ drop-set-lt t.size slots t.len e free;
+    }
+
+pub returns-else-self-clause-value : goal.returns-else-self-clause-value
+returns-else-self-clause-value g c =
+    let t = c.args.self.now in
+    let e = c.in-Err.ensures in
+    let done = row_added g.K.TotalOrder.less g.met.K.TotalOrder.total t.slots.now t.len t.rising c.args.key c.in-Err.i e.value e.within (search rules) c.args.value c.rotate_right.new.self (search rules) in
+    let free : length (items t) < capacity t = search rules in
+    search rules
