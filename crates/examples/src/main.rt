@@ -6,36 +6,31 @@ use keys::Key;
 use std::io;
 use worked_examples::{WorkedExamples, copy_then_overwrite, worked_examples};
 
+/// DWARF 5, section 7.6: the examples of unsigned LEB128 encodings.
+const TABLE: [(u64, &[u8]); 5] = [
+    (2, &[2]),
+    (127, &[127]),
+    (128, &[0 + 0x80, 1]),
+    (129, &[1 + 0x80, 1]),
+    (12857, &[57 + 0x80, 100]),
+];
+
 /// Whether `number` is written in exactly these bytes, and read back from them.
 fn encodes(number: u64, bytes: &[u8]) -> bool {
     let mut out = [0u8; 10];
-    let written = match leb128::write(number, &mut out) {
-        Ok(size) => &out[0..size] == bytes,
-        Err(_) => false,
-    };
-    let read = match leb128::read(bytes) {
-        Ok((n, rest)) => n == number && rest.is_empty(),
-        Err(_) => false,
-    };
-    written && read
+    leb128::write(number, &mut out) == Ok(bytes.len())
+        && out.starts_with(bytes)
+        && leb128::read(bytes) == Ok((number, &[]))
 }
 
-/// A row of the table.
-fn row(rt: &impl Print, number: u64, bytes: &[u8]) -> anyhow::Result<()> {
-    if !encodes(number, bytes) {
-        return Err(anyhow!("an encoding differs from the table"));
-    }
-    println!(rt; "{number} is {bytes:?}")?;
-    Ok(())
-}
-
-/// DWARF 5, section 7.6: the examples of unsigned LEB128 encodings.
 fn dwarf_table(rt: &impl Print) -> anyhow::Result<()> {
-    row(rt, 2, &[2])?;
-    row(rt, 127, &[127])?;
-    row(rt, 128, &[0 + 0x80, 1])?;
-    row(rt, 129, &[1 + 0x80, 1])?;
-    row(rt, 12857, &[57 + 0x80, 100])
+    for (number, bytes) in TABLE {
+        if !encodes(number, bytes) {
+            return Err(anyhow!("an encoding differs from the table"));
+        }
+        println!(rt; "{number} is {bytes:?}")?;
+    }
+    Ok(())
 }
 
 /// The worked examples of this repository.

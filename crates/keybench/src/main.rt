@@ -40,8 +40,9 @@ fn write_keys(out: &mut [u8], count: usize) -> Result<usize, WriteError>
     ensures { IfOk result (λ n. n ≤ length out.old) }
 {
     let mut place = 0;
-    for i in 0..count {
-        place += key_at(i as u64).write(&mut out[place..])?;
+    // `i` is the number of a key, and no place in a slice.
+    for i in 0..count as u64 {
+        place += key_at(i).write(&mut out[place..])?;
     }
     Ok(place)
 }
@@ -50,16 +51,15 @@ fn write_keys(out: &mut [u8], count: usize) -> Result<usize, WriteError>
 fn read_keys(bytes: &[u8]) -> (u64, u64) {
     let mut reader = Reader::new(bytes);
     let mut key = key_at(0);
-    let mut equal = 0u64;
-    for i in 0..u64::MAX {
-        if reader.is_empty() || reader.next(&mut key).is_err() {
-            return (i, equal);
+    let mut read = 0;
+    let mut equal = 0;
+    while !reader.is_empty() && reader.next(&mut key).is_ok() {
+        if key == key_at(read) {
+            equal += 1;
         }
-        if key.equals(&key_at(i)) {
-            equal = equal.saturating_add(1);
-        }
+        read += 1;
     }
-    (u64::MAX, equal)
+    (read, equal)
 }
 
 /// Keys for each second.
@@ -70,10 +70,8 @@ fn rate(keys: u64, time: Duration) -> u128 {
 
 /// The count that is given as the first argument.
 fn count(rt: &HostRuntime) -> anyhow::Result<Option<usize>> {
-    match env::args(rt)?.nth(1) {
-        None => Ok(None),
-        Some(text) => Ok(Some(text.as_str().parse::<usize>()?)),
-    }
+    let given = env::args(rt)?.nth(1);
+    Ok(given.map(|text| text.as_str().parse()).transpose()?)
 }
 
 fn run(rt: &HostRuntime) -> anyhow::Result<()> {

@@ -1,5 +1,5 @@
 -- What stands behind a name at the front of a text. Assumes nothing.
-use Rattle.std.proofs.Common.{◌≡◌, ℕ, ◌<◌, List, [], ◌∷◌, ◌++◌, length, get_or, drop, sym, ap, ◌∙◌, inl, inr, arith}
+use Rattle.std.proofs.Common.{◌≡◌, ◌≢◌, ℕ, ◌<◌, List, [], ◌∷◌, ◌++◌, length, sym, ap, ◌∙◌, inl, inr, arith, Option, Some, None, MatchOption, Bor}
 use Rattle.std.proofs.lemmas.List.{append-nil, append_cancel_left, nil_from_length}
 use Rattle.keydump.specs.Lines.{HasDigits}
 
@@ -14,15 +14,14 @@ module _ (text name rest : List ℕ) (e : text ≡ name ++ rest) where
       let z : rest ≡ [] = nil_from_length rest l in
       inl (e ∙ ap (λ (x : List ℕ). name ++ x) z ∙ append-nil name, z)
 
-  pub spaced : 0 < length rest → get_or rest 0 0 ≡ 32 → HasDigits name text (drop 1 rest)
-  spaced l h = inr (e ∙ ap (λ (x : List ℕ). name ++ x) (split rest l h))
+  -- what a space is taken from the front of
+  pub spaced : 0 < length rest → (r : Option (Bor (List ℕ))) → MatchOption r ((digits : List ℕ) → rest ≢ 32 ∷ digits) (λ x. rest ≡ 32 ∷ x.now)
+      → MatchOption r ((digits : List ℕ) → HasDigits name text digits → ⊥) (λ x. HasDigits name text x.now)
+  spaced l None n = unspaced
     where
-      split : (xs : List ℕ) → 0 < length xs → get_or xs 0 0 ≡ 32 → xs ≡ 32 ∷ drop 1 xs
-      split [] m g = absurd (omega arith)
-      split (x ∷ xs) m g = ap (λ (y : ℕ). y ∷ xs) g
-
-  pub unspaced : 0 < length rest → (get_or rest 0 0 ≡ 32 → ⊥) → (digits : List ℕ) → HasDigits name text digits → ⊥
-  unspaced l n digits (inl h) =
-      let z : rest ≡ [] = append_cancel_left name rest [] (sym e ∙ h.0 ∙ sym (append-nil name)) in
-      omega (arith, ap length z)
-  unspaced l n digits (inr h) = n (ap (λ (x : List ℕ). get_or x 0 0) (append_cancel_left name rest (32 ∷ digits) (sym e ∙ h)))
+      unspaced : (digits : List ℕ) → HasDigits name text digits → ⊥
+      unspaced digits (inl h) =
+          let z : rest ≡ [] = append_cancel_left name rest [] (sym e ∙ h.0 ∙ sym (append-nil name)) in
+          omega (arith, ap length z)
+      unspaced digits (inr h) = n digits (append_cancel_left name rest (32 ∷ digits) (sym e ∙ h))
+  spaced l (Some x) h = inr (e ∙ ap (λ (y : List ℕ). name ++ y) h)

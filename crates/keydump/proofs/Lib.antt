@@ -1,2 +1,3 @@
 mod Grown
 mod Behind
+mod Pairs

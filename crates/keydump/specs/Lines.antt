@@ -1,9 +1,8 @@
 -- The form of an input line. Assumes nothing.
-use Rattle.std.specs.Prelude.{◌≡◌, ℕ, ◌+◌, ◌⊎◌, List, [], ◌∷◌, ◌++◌, length, vec_items, codes, slice_index}
+use Rattle.std.specs.Prelude.{◌≡◌, ℕ, ◌+◌, ◌⊎◌, List, [], ◌∷◌, ◌++◌, length, vec_items, codes, slice_index, Some, None, Option}
 use Rattle.keydump.specs.declared.line.DigestType.{DigestType}
 use Rattle.keydump.specs.declared.line.DigestType.TheVariants.{Bytes32, U64}
-use Rattle.keydump.specs.declared.line.Line.{Line}
-use Rattle.keydump.specs.declared.line.Line.TheVariants.{Skipped, Keys}
+use Rattle.keydump.specs.declared.line.EncodedKeys.{EncodedKeys}
 use Rattle.keydump.specs.declared.line.LineError.{LineError}
 use Rattle.keydump.specs.declared.line.LineError.TheVariants.{UnknownType, NotHexadecimal, HalfByte, NoMemory}
 use Rattle.keydump.specs.Hexadecimal.{Spells, NotSpelled}
@@ -16,9 +15,10 @@ name_of U64 = codes "u64"
 abbrev pub HasDigits : List ℕ → List ℕ → List ℕ → Type 0
 HasDigits name text digits = ((text ≡ name) × (digits ≡ [])) ⊎ (text ≡ name ++ 32 ∷ digits)
 
-abbrev pub IsLine : List ℕ → Line → Type 0
-IsLine text Skipped = (length text ≡ 0) ⊎ (slice_index text 0 ≡ 35)
-IsLine text (Keys t bytes) = (digits : List ℕ) × HasDigits (name_of t) text digits × Spells digits (vec_items bytes)
+-- a line is skipped, or its digits spell the bytes of keys
+abbrev pub IsLine : List ℕ → Option EncodedKeys → Type 0
+IsLine text None = (length text ≡ 0) ⊎ (slice_index text 0 ≡ 35)
+IsLine text (Some k) = (digits : List ℕ) × HasDigits (name_of k.digest) text digits × Spells digits (vec_items k.bytes)
 
 -- digits that spell no bytes, behind the name of a type and a space
 abbrev pub BadDigits : List ℕ → LineError → Type 0

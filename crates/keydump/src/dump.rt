@@ -4,7 +4,7 @@ ghost use Rattle.std.specs.Prelude.{◌≡◌, None};
 use crate::totals::{Event, Totals};
 use digests::Digest;
 use keys::{Key, Reader};
-use order::TotalOrder;
+use refusals::Refusal;
 use std::cmp::Ordering;
 use std::{fmt, io};
 use types::Height;
@@ -23,6 +23,17 @@ impl fmt::Display for Hex<'_> {
         }
         Ok(())
     }
+}
+
+/// Counts and prints the refusal of the key at `start`.
+fn refused<V: fmt::Display + Drop>(
+    rt: &impl Print,
+    start: usize,
+    refusal: Refusal<V>,
+    totals: &mut Totals,
+) -> io::Result<()> {
+    totals.count(Event::Refusal);
+    println!(rt; "  at {start}: {refusal}")
 }
 
 /// Keys of one digest type, and the last of them that was read.
@@ -44,24 +55,17 @@ impl<D: Digest> Dump<D> {
         let mut key = Key::Finalized {
             height: Height::new(0),
         };
-        for _ in 0..=bytes.len() {
+        loop {
             let start = reader.place();
-            match reader.next(&mut key) {
-                Ok(()) => {
-                    let read = &bytes[start..reader.place()];
-                    self.key(rt, start, key, read, totals)?;
-                }
-                Err(e) => {
-                    totals.count(Event::Refusal);
-                    let refusal = e.refusal();
-                    return println!(rt; "  at {start}: {refusal}");
-                }
+            if let Err(e) = reader.next(&mut key) {
+                return refused(rt, start, Refusal::from(e), totals);
             }
+            let read = &bytes[start..reader.place()];
+            self.key(rt, start, key, read, totals)?;
             if reader.is_empty() {
-                break;
+                return Ok(());
             }
         }
-        Ok(())
     }
 
     /// Writes a key that was read from the bytes `read`, compares it with the last one, and prints all that.
@@ -76,11 +80,7 @@ impl<D: Digest> Dump<D> {
         let mut out = [0u8; LONGEST];
         let size = match key.write(&mut out) {
             Ok(size) => size,
-            Err(e) => {
-                totals.count(Event::Refusal);
-                let refusal = e.refusal();
-                return println!(rt; "  at {start}: {refusal}");
-            }
+            Err(e) => return refused(rt, start, Refusal::from(e), totals),
         };
         let written = &out[0..size];
         totals.count(Event::Key);
@@ -106,19 +106,12 @@ impl<D: Digest> Dump<D> {
         let Some(last) = self.last.replace(key) else {
             return "the first";
         };
-        match key.compare(&last) {
-            Ordering::Less => {
-                totals.count(Event::Less);
-                "less than the one before"
-            }
-            Ordering::Equal => {
-                totals.count(Event::Equal);
-                "equal to the one before"
-            }
-            Ordering::Greater => {
-                totals.count(Event::Greater);
-                "greater than the one before"
-            }
-        }
+        let (event, relation) = match key.cmp(&last) {
+            Ordering::Less => (Event::Less, "less than the one before"),
+            Ordering::Equal => (Event::Equal, "equal to the one before"),
+            Ordering::Greater => (Event::Greater, "greater than the one before"),
+        };
+        totals.count(event);
+        relation
     }
 }

@@ -1,29 +1,41 @@
 //! The form of an input line: a digest type, a space, and the bytes of keys in hexadecimal digits.
 ghost use Rattle.std.specs.Prelude.{◌≡◌, ℕ, ◌+◌, ◌*◌, ◌<◌, List, length, MatchOption, MatchResult, slice_index};
-ghost use Rattle.keydump.specs.declared.line.LineError.TheVariants.{NoMemory};
+ghost use Rattle.keydump.specs.declared.line.LineError.TheVariants.{NotHexadecimal, NoMemory};
 ghost use Rattle.keydump.specs.Hexadecimal.{HexDigit, Spells, NotSpelled};
-ghost use Rattle.keydump.specs.Lines.{HasDigits, IsLine, NotLine};
+ghost use Rattle.keydump.specs.Lines.{name_of, HasDigits, IsLine, NotLine};
 
 use std::alloc::{AllocFailed, Global};
 use std::fmt;
 
-const SPACE: u8 = b' ';
-
-#[derive(Clone, Copy)]
+#[derive(Clone, Copy, Debug, PartialEq, Eq)]
 pub enum DigestType {
     Bytes32,
     U64,
 }
 
+impl DigestType {
+    const ALL: [DigestType; 2] = [DigestType::Bytes32, DigestType::U64];
+
+    /// What a line of keys of this type begins with.
+    pub fn name(self) -> &'static str
+        ensures { result.now ≡ name_of self }
+    {
+        match self {
+            DigestType::Bytes32 => "bytes32",
+            DigestType::U64 => "u64",
+        }
+    }
+}
+
+/// What a line of keys holds: the bytes of keys one after another, with digests of one type.
 #[derive(Drop)]
-pub enum Line {
-    /// An empty line, or one that begins with '#'.
-    Skipped,
-    Keys(DigestType, Vec<u8>),
+pub struct EncodedKeys {
+    pub digest: DigestType,
+    pub bytes: Vec<u8>,
 }
 
 /// Why a line is not of the form. A column counts from 1.
-#[derive(Clone, Copy)]
+#[derive(Clone, Copy, Debug, PartialEq, Eq)]
 pub enum LineError {
     UnknownType,
     NotHexadecimal { column: usize },
@@ -52,26 +64,13 @@ impl fmt::Display for LineError {
     }
 }
 
-/// The value of a hexadecimal digit, of either case.
-fn hex_digit(c: u8) -> Option<u8>
-    ensures { MatchOption result ((d : ℕ) → HexDigit c d → ⊥) (λ d. HexDigit c d) }
+/// The value of the hexadecimal digit `c`, of either case, which stands in `column`.
+fn digit(c: u8, column: usize) -> Result<u8, LineError>
+    ensures { MatchResult result (λ d. HexDigit c d) (λ e. (e ≡ NotHexadecimal column) × ((d : ℕ) → HexDigit c d → ⊥)) }
 {
-    match c {
-        b'0'..=b'9' => Some(c - b'0'),
-        b'A'..=b'F' => Some(c - b'A' + 10),
-        b'a'..=b'f' => Some(c - b'a' + 10),
-        _ => None,
-    }
-}
-
-/// The digit at place `i` of `text`, whose first column is `column`.
-fn digit_at(text: &[u8], i: usize, column: usize) -> Result<u8, LineError>
-    requires { (i < length text.now) × (column < 16) }
-    ensures { MatchResult result (λ d. HexDigit (slice_index text.now i) d) (λ e. NotSpelled text.now column e) }
-{
-    match hex_digit(text[i]) {
-        Some(digit) => Ok(digit),
-        None => Err(LineError::NotHexadecimal { column: column + i }),
+    match char::from(c).to_digit(16) {
+        Some(digit) => Ok(digit as u8),
+        None => Err(LineError::NotHexadecimal { column }),
     }
 }
 
@@ -80,14 +79,15 @@ fn decode(heap: Global, text: &[u8], column: usize) -> Result<Vec<u8>, LineError
     requires { column < 16 }
     ensures { MatchResult result (λ v. Spells text.now v.items) (λ e. NotSpelled text.now column e) }
 {
+    let (pairs, half) = text.as_chunks::<2>();
     let mut bytes = Vec::new(heap);
-    for i in 0..text.len() / 2 {
-        let high = digit_at(text, 2 * i, column)?;
-        let low = digit_at(text, 2 * i + 1, column)?;
+    for (i, &[high, low]) in pairs.iter().enumerate() {
+        let high = digit(high, column + 2 * i)?;
+        let low = digit(low, column + 2 * i + 1)?;
         bytes.push(16 * high + low)?;
     }
-    if text.len() % 2 == 1 {
-        digit_at(text, text.len() - 1, column)?;
+    if let &[c] = half {
+        digit(c, column + 2 * pairs.len())?;
         return Err(LineError::HalfByte);
     }
     Ok(bytes)
@@ -99,26 +99,25 @@ fn behind<'a>(text: &'a [u8], name: &[u8]) -> Option<&'a [u8]>
 {
     let rest = text.strip_prefix(name)?;
     if rest.is_empty() {
-        return Some(rest);
+        Some(rest)
+    } else {
+        rest.strip_prefix(b" ")
     }
-    if rest[0] != SPACE {
-        return None;
-    }
-    Some(&rest[1..])
 }
 
-/// A line without its ending.
-pub fn parse(heap: Global, text: &[u8]) -> Result<Line, LineError>
+/// A line without its ending: none where it is empty or begins with '#'.
+pub fn parse(heap: Global, text: &[u8]) -> Result<Option<EncodedKeys>, LineError>
     ensures { MatchResult result (λ line. IsLine text.now line) (λ e. NotLine text.now e) }
 {
-    if text.is_empty() || text[0] == b'#' {
-        return Ok(Line::Skipped);
+    if let [] | [b'#', ..] = text {
+        return Ok(None);
     }
-    if let Some(digits) = behind(text, b"bytes32") {
-        return Ok(Line::Keys(DigestType::Bytes32, decode(heap, digits, 9)?));
-    }
-    if let Some(digits) = behind(text, b"u64") {
-        return Ok(Line::Keys(DigestType::U64, decode(heap, digits, 5)?));
+    for digest in DigestType::ALL {
+        let name = digest.name();
+        if let Some(digits) = behind(text, name.as_bytes()) {
+            let bytes = decode(heap, digits, name.len() + 2)?;
+            return Ok(Some(EncodedKeys { digest, bytes }));
+        }
     }
     Err(LineError::UnknownType)
 }

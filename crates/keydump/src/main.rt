@@ -6,7 +6,7 @@ mod line;
 mod totals;
 
 use dump::Dump;
-use line::{DigestType, Line};
+use line::{DigestType, EncodedKeys};
 use std::io::{BufRead, BufReader};
 use totals::{Event, Totals};
 
@@ -21,14 +21,14 @@ fn run(rt: &HostRuntime) -> anyhow::Result<()> {
     {
         let number = index.saturating_add(1);
         match line::parse(rt.alloc(), text?.as_slice()) {
-            Ok(Line::Skipped) => {}
-            Ok(Line::Keys(DigestType::Bytes32, bytes)) => {
-                println!(rt; "line {number}: bytes32")?;
-                bytes32.keys(rt, bytes.as_slice(), &mut totals)?;
-            }
-            Ok(Line::Keys(DigestType::U64, bytes)) => {
-                println!(rt; "line {number}: u64")?;
-                u64s.keys(rt, bytes.as_slice(), &mut totals)?;
+            Ok(None) => {}
+            Ok(Some(EncodedKeys { digest, bytes })) => {
+                let name = digest.name();
+                println!(rt; "line {number}: {name}")?;
+                match digest {
+                    DigestType::Bytes32 => bytes32.keys(rt, bytes.as_slice(), &mut totals)?,
+                    DigestType::U64 => u64s.keys(rt, bytes.as_slice(), &mut totals)?,
+                }
             }
             Err(e) => {
                 totals.count(Event::BadLine);

@@ -4,7 +4,7 @@ ghost use Rattle.keydump.specs.Counts.{place_of, counted};
 
 use std::fmt;
 
-#[derive(Clone, Copy)]
+#[derive(Clone, Copy, Debug, PartialEq, Eq)]
 pub enum Event {
     Key,
     WrittenAsRead,
@@ -18,6 +18,7 @@ pub enum Event {
 /// How often each thing happened. A count stops at the highest number.
 #[derive(Drop)]
 pub struct Totals {
+    // By an event's place in its enum: with a field for each, `count` would name every event again.
     counts: [u64; 7],
 }
 
@@ -31,9 +32,8 @@ impl Totals {
     pub fn count(&mut self, event: Event)
         ensures { self.new.counts ≡ counted self.old.counts (place_of event) }
     {
-        let place = event as usize;
-        let count = self.counts[place];
-        self.counts[place] = count.saturating_add(1);
+        let count = &mut self.counts[event as usize];
+        *count = count.saturating_add(1);
     }
 }
 
