@@ -1,9 +1,10 @@
 -- The bytes of numbers of 64 bits tell them apart, and are in their order. Assumes nothing.
-use Rattle.std.specs.Prelude.{◌≡◌, ℕ, zero, suc, ◌+◌, ◌*◌, ◌/◌, ◌%◌, ◌^◌, ◌<◌, ◌≤◌, true, List, ◌∷◌, length, nat_lt, slice_index, refl}
+use Rattle.std.specs.Prelude.{◌≡◌, ℕ, zero, suc, ◌+◌, ◌*◌, ◌/◌, ◌%◌, ◌^◌, ◌<◌, ◌≤◌, true, List, ◌∷◌, length, take, nat_lt, slice_index, refl}
 use Rattle.std.proofs.Common.{sym, ap, ◌∙◌, add-mul, mul-le-mul_right, mod-lt, arith, inl, inr}
 use Rattle.std.proofs.Math.Nat.{one-le-pow, pow-succ'}
 use Rattle.std.proofs.Math.Arith.{mod-mul}
-use Rattle.std.proofs.lemmas.Bool.{cases_order, lt-ltb, le-ltb}
+use Rattle.std.proofs.lemmas.List.{get_or-take, get_or_past, length-take}
+use Rattle.std.proofs.lemmas.Bool.{cases_lt, cases_order, lt-ltb, le-ltb}
 use Rattle.std.proofs.lemmas.Nat.{be_bytes_8, from_be_bytes-to_be_bytes_8}
 use Rattle.std.specs.Int.{w64, from_be_bytes, to_be_bytes}
 use Rattle.order.specs.Orders.{lex_less}
@@ -18,6 +19,14 @@ written n = let e : n / 1 % 256 ≡ n % 256 = omega arith in cc
 -- the bytes of the number that eight bytes make are those bytes
 pub big_endian-summed : (xs : List ℕ) → length xs ≡ 8 → ((k : ℕ) → slice_index xs k < 256) → big_endian (from_be_bytes w64 xs) ≡ xs
 big_endian-summed xs l w = written (from_be_bytes w64 xs) ∙ be_bytes_8 xs (from_be_bytes w64 xs) l w refl
+
+-- bytes that are each below 256 are so in their first n too
+pub take_bytes : (n : ℕ) (bs xs : List ℕ) → xs ≡ take n bs → ((k : ℕ) → slice_index bs k < 256) → (k : ℕ) → slice_index xs k < 256
+take_bytes n bs xs e w k =
+    elim (cases_lt k n) [
+      | inl l ↦ omega (arith, ap (λ (x : List ℕ). slice_index x k) e, get_or-take n bs k 0 l, w k)
+      | inr l ↦ omega (arith, ap (λ (x : List ℕ). slice_index x k) e, get_or_past (take n bs) k 0 (omega (arith, length-take n bs)))
+    ]
 
 -- a number of 64 bits is what its bytes make
 pub summed-big_endian : (n : ℕ) → n < 2 ^ 64 → from_be_bytes w64 (big_endian n) ≡ n

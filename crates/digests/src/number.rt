@@ -28,7 +28,7 @@ impl Digest for u64 {
     }
 
     fn encode_size(&self) -> usize {
-        // Not `Self::SIZE`: what is read of the number shows that it has 64 bits.
+        // Not `Self::SIZE`: a call on the number brings the proof that it is below 2^64, for the clause `holds`.
         self.to_be_bytes().len()
     }
 

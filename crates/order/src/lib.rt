@@ -11,6 +11,8 @@ mod pair;
 
 use std::cmp::Ordering;
 
+// `equals` and `compare` are what `==` and `cmp` answer, under contracts in the words of values and of the order.
+
 /// Values that can be told apart: yes exactly for two equal values.
 pub trait Equality: Eq {
     fn equals(&self, other: &Self) -> bool

@@ -11,6 +11,7 @@ use std::fmt;
 /// `refusal_of` in specs/, and `From` in the code.
 #[derive(Clone, Copy, Debug, PartialEq, Eq)]
 pub struct Refusal<V> {
+    // A number and no enum, since it is what a caller is told; the cases are those of the error enums.
     pub number: u8,
     pub values: V,
 }

@@ -6,7 +6,7 @@ use crate::annotation::{Annotation, Finalized};
 use keys::Key;
 use types::{Cutoff, Height};
 
-// A key and an annotation, and no struct of both, as in the Rust: callers hold them apart, as `into_inner` gives them.
+// A key and an annotation, and no struct of both: it would be made for these two calls alone, of what `into_inner` gives apart.
 
 /// Whether a pair is above a height floor: one that is bound to a height is if its height is higher, any other always is.
 pub fn above_height_floor<D>(floor: Height, key: &Key<D>, annotation: &Annotation) -> bool

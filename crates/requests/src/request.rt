@@ -4,6 +4,7 @@ ghost use Rattle.requests.specs.Floors.{AboveHeight, AboveRound};
 ghost use Rattle.requests.specs.Requests.{key_of, annotation_of};
 
 use crate::annotation::{Annotation, Finalized};
+use crate::floor;
 use keys::Key;
 use types::{Cutoff, Height, Round};
 
@@ -105,24 +106,15 @@ impl<D: Copy> Request<D> {
     pub fn above_height_floor(&self, floor: Height) -> bool
         ensures { MatchBool result (AboveHeight floor (key_of self.now) (annotation_of self.now)) (AboveHeight floor (key_of self.now) (annotation_of self.now) → ⊥) }
     {
-        match self.kind {
-            RequestKind::Finalized { height }
-            | RequestKind::Untrusted { height, .. }
-            | RequestKind::Certified { height, .. }
-            | RequestKind::FinalizedByHeight { height, .. } => height > floor,
-            RequestKind::Notarized { .. } | RequestKind::FinalizedByRound { .. } => true,
-        }
+        let (key, annotation) = self.into_inner();
+        floor::above_height_floor(floor, &key, &annotation)
     }
 
     /// As the free `above_round_floor` of its key and annotation.
     pub fn above_round_floor(&self, cutoff: Cutoff) -> bool
         ensures { MatchBool result (AboveRound cutoff (key_of self.now) (annotation_of self.now)) (AboveRound cutoff (key_of self.now) (annotation_of self.now) → ⊥) }
     {
-        match self.kind {
-            RequestKind::Notarized { round } | RequestKind::FinalizedByRound { round, .. } => {
-                !cutoff.covers(round)
-            }
-            _ => true,
-        }
+        let (key, annotation) = self.into_inner();
+        floor::above_round_floor(cutoff, &key, &annotation)
     }
 }

@@ -6,6 +6,7 @@ use order::{Equality, TotalOrder};
 use std::fmt;
 
 /// A segment of the sequence of views under one set of validators.
+// A type of its own beside a height or a view, and no generic number: its marker would stand in every literal of the specs, and say nothing there.
 #[derive(Clone, Copy, PartialEq, Eq, PartialOrd, Ord)]
 pub struct Epoch(u64);
 

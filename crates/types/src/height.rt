@@ -6,6 +6,7 @@ use order::{Equality, TotalOrder};
 use std::fmt;
 
 /// A position in the chain of blocks.
+// A type of its own beside an epoch or a view, and no generic number: its marker would stand in every literal of the specs, and say nothing there.
 #[derive(Clone, Copy, PartialEq, Eq, PartialOrd, Ord)]
 pub struct Height(u64);
 
