@@ -45,6 +45,7 @@ impl Drop for Rewind<'_, '_> {
     }
 }
 
+// That the bytes stay stands in the contract of each call that moves the place: what a call leaves is no fact about a cursor.
 impl<'b> Cursor<'b> {
     /// Before the first of `bytes`.
     pub(crate) fn new(bytes: &'b [u8]) -> Cursor<'b>
@@ -72,13 +73,12 @@ impl<'b> Cursor<'b> {
         ensures bytes { self.new.bytes ≡ self.old.bytes }
         ensures tag { MatchResult result (λ tag. (self.new.place ≡ self.old.place + 1) × (self.old.place < length self.old.bytes.now) × (tag ≡ slice_index self.old.bytes.now self.old.place)) (λ e. (refusal_of e ≡ refusal 1 (InField layer.Key field.Tag 0)) × (length self.old.bytes.now ≤ self.old.place)) }
     {
-        let Some(&tag) = self.bytes.get(self.place) else {
-            return Err(ReadError::Truncated {
-                layer: Layer::Key,
-                field: Field::Tag,
-                place: 0,
-            });
-        };
+        let tag = self.bytes.get(self.place).copied();
+        let tag = tag.ok_or(ReadError::Truncated {
+            layer: Layer::Key,
+            field: Field::Tag,
+            place: 0,
+        })?;
         self.place += 1;
         Ok(tag)
     }
@@ -87,34 +87,29 @@ impl<'b> Cursor<'b> {
     fn take_digest(&mut self, size: usize, start: usize) -> Result<&'b [u8], ReadError>
         requires { start ≤ self.old.place }
         ensures bytes { self.new.bytes ≡ self.old.bytes }
-        ensures digest { MatchResult result (λ part. (part.now ≡ take size (drop self.old.place self.old.bytes.now)) × (self.new.place ≡ self.old.place + size) × (self.new.place ≤ length self.old.bytes.now)) (λ e. (refusal_of e ≡ refusal 1 (InField layer.Key field.Digest (length self.old.bytes.now - start))) × (length self.old.bytes.now < self.old.place + size)) }
+        ensures digest { MatchResult result (λ part. (part.now ≡ take size (drop self.old.place self.old.bytes.now)) × (self.new.place ≡ self.old.place + size)) (λ e. (refusal_of e ≡ refusal 1 (InField layer.Key field.Digest (length self.old.bytes.now - start))) × (length self.old.bytes.now < self.old.place + size)) }
     {
-        let from = self.place;
-        let bytes = self.bytes;
-        if bytes.len() - from < size {
-            return Err(ReadError::Truncated {
-                layer: Layer::Key,
-                field: Field::Digest,
-                place: bytes.len() - start,
-            });
-        }
-        self.place = from + size;
-        Ok(&bytes[from..from + size])
+        let part = self.rest().get(..size).ok_or(ReadError::Truncated {
+            layer: Layer::Key,
+            field: Field::Digest,
+            place: self.bytes.len() - start,
+        })?;
+        self.place += size;
+        Ok(part)
     }
 
     /// The number at the cursor, of the field `field`; the key began at `start`.
     fn take_number(&mut self, field: Field, start: usize) -> Result<u64, ReadError>
         requires { start ≤ self.old.place }
         ensures bytes { self.new.bytes ≡ self.old.bytes }
-        ensures number { MatchResult result (λ n. (n < 2 ^ 64) × (drop self.old.place self.old.bytes.now ≡ encode n ++ drop self.new.place self.old.bytes.now) × (self.new.place ≡ self.old.place + length (encode n)) × (self.new.place ≤ length self.old.bytes.now)) (λ e. ((m q : ℕ) × (refusal_of e ≡ refusal m (InField layer.Number field (self.old.place - start + q))) × NumberRefuses (drop self.old.place self.old.bytes.now) (refusal m q))) }
+        ensures number { MatchResult result (λ n. (n < 2 ^ 64) × (drop self.old.place self.old.bytes.now ≡ encode n ++ drop self.new.place self.old.bytes.now) × (self.new.place ≡ self.old.place + length (encode n))) (λ e. ((m q : ℕ) × (refusal_of e ≡ refusal m (InField layer.Number field (self.old.place - start + q))) × NumberRefuses (drop self.old.place self.old.bytes.now) (refusal m q))) }
     {
-        match leb128::read(self.rest()) {
-            Ok((n, rest)) => {
-                self.place = self.bytes.len() - rest.len();
-                Ok(n)
-            }
-            Err(fault) => Err(ReadError::in_number(field, self.place - start, fault)),
-        }
+        let begin = self.place - start;
+        let (n, rest) = leb128::read(self.rest()).map_err(|fault| ReadError::in_number(
+            field, begin, fault,
+        ))?;
+        self.place = self.bytes.len() - rest.len();
+        Ok(n)
     }
 
     /// The key at the cursor, whose digest is `size` bytes. A refusal leaves the cursor where it was.

@@ -56,6 +56,8 @@ impl fmt::Display for Field {
     }
 }
 
+// Layer, field and place stand in each case, and not in a struct of their own, since callers match on them by name.
+
 /// Why no key was read. A place counts from 0 at the key's first byte, and is that of the offending or missing byte.
 #[derive(Clone, Copy, Debug, PartialEq, Eq)]
 pub enum ReadError {

@@ -40,14 +40,11 @@ impl<D: Digest> TryFrom<KeyRef<'_>> for Key<D> {
 
     fn try_from(borrowed: KeyRef<'_>) -> Result<Key<D>, ReadError> {
         match borrowed {
-            KeyRef::Block(part) => match D::read(part) {
-                Some(digest) => Ok(Key::Block(digest)),
-                None => Err(ReadError::Truncated {
-                    layer: Layer::Key,
-                    field: Field::Digest,
-                    place: 1 + part.len(),
-                }),
-            },
+            KeyRef::Block(part) => D::read(part).map(Key::Block).ok_or(ReadError::Truncated {
+                layer: Layer::Key,
+                field: Field::Digest,
+                place: 1 + part.len(),
+            }),
             KeyRef::Finalized { height } => Ok(Key::Finalized { height }),
             KeyRef::Notarized { round } => Ok(Key::Notarized { round }),
         }
