@@ -12,7 +12,8 @@ pub use ring::{Filter, place, sweep};
 use std::fmt;
 
 /// The first `size` slots of lent memory, found to be there; the size is from `LEAST` to `MOST`. Only `check` makes one.
-// The whole lent slice beside the size: contracts speak of the memory beyond, which no call touches.
+// The whole lent slice beside the size: contracts speak of the memory beyond, which no call touches. A queue and a table hold the two again, since
+// a struct of them would have to repeat each method of a slice that they use.
 #[derive(Drop)]
 pub struct Memory<'a, T, const LEAST: usize, const MOST: usize> {
     slots: &'a mut [T],

@@ -13,7 +13,7 @@ pub fn place(room: usize, head: usize, i: usize) -> usize
 }
 
 /// A named test of a sweep: which entries stay, and what the test notes of each.
-// No closure: a law over whole runs applies `passes` and `noted` to any entry, and a closure's clauses relate only its calls.
+// A trait and no closure: that `passes` and `noted` are functions says more of a sweep than a relation between a closure's calls.
 pub trait Filter<T> {
     ghost passes: { Self → T → Bool };
 
@@ -35,7 +35,7 @@ pub fn sweep<T: Copy, S: Filter<T>>(
 ) -> usize
     ensures { Swept S.Filter.passes S.Filter.noted test.old test.new slots.old slots.new size head len result }
 {
-    // Any numbers will do, since a public function asks nothing of its callers; a struct of them could not hold them to the slice.
+    // Three numbers and no struct of them: a public function asks nothing of its callers, so any numbers have to do.
     let room = size.min(slots.len());
     let mut count = 0;
     // By index, since what stays is written to places of the slice that is read.

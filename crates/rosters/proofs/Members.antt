@@ -1,6 +1,6 @@
 -- A table of numbers as a set, and what its calls do to the set. Assumes nothing.
 use Rattle.std.proofs.Common.{◌≡◌, ℕ, zero, suc, Bool, true, false, cond, not, ◌&&◌, ◌||◌, eqb, nat_lt, List, [], ◌∷◌, length, is_some, Some, None, Ok, Option, sym, refl, ap, ◌∙◌, subst, inl, inr, ⊎_elim, arith}
-use Rattle.std.proofs.lemmas.Bool.{cases_Bool, cases_eq, eqb-true, eq-eqb, ne_eqb, or_cases, or_left, or_right, both_ways, cond-true, cond-false, lt-ltb, and_parts, and_from}
+use Rattle.std.proofs.lemmas.Bool.{cases_Bool, cases_eq, eqb-true, eq-eqb, ne_eqb, or_cases, or_left, or_right, both_ways, cond-true, lt-ltb, and_parts, and_from}
 use Rattle.table.specs.declared.Entry.{Entry}
 use Rattle.table.specs.Edits.{Inserted, Removed}
 use Rattle.table.specs.Maps.{entry_of, Holds, Absent, Sole, Lookup, Assigned, Without}
@@ -86,14 +86,6 @@ module _ (xs : List (Entry ℕ (Unit {0}))) (k : ℕ) where
             (λ e. ap (λ b. b || absent xs n) (sym (ne_eqb n k e)))
             (cases_eq n k);
         count = ap (λ b. cond (not b) 0 1) (sym out);
-      }
-
-  -- nothing changes: there is no place
-  pub enters_nobody : (place : Bool) → place ≡ false → Enters place (absent xs) (absent xs) k 0
-  enters_nobody place p =
-      record {
-        set = λ n. sym (cond-false place (removed (absent xs) k n) (absent xs n) p);
-        count = ap (λ t. cond (t && absent xs k) 1 0) (sym p);
       }
 
   -- a member enters again

@@ -90,6 +90,7 @@ impl<'a> BitRoster<'a> {
     }
 
     /// A requester leaves: 1 if it had not left before, else 0.
+    // A number and no `bool`: callers add up how many came and went.
     pub fn leave(&mut self, requester: u32) -> usize
         ensures leaves { Leaves (left_in self.old) (left_in self.new) requester result }
         ensures kept { Kept self.old self.new }
@@ -98,6 +99,7 @@ impl<'a> BitRoster<'a> {
     }
 
     /// A requester enters, where there is a place for it: 1 if it had left before, else 0.
+    // A number and no `bool`: callers add up how many came and went.
     pub fn enter(&mut self, requester: u32) -> usize
         ensures enters { Enters (place_in self.old requester) (left_in self.old) (left_in self.new) requester result }
         ensures kept { Kept self.old self.new }

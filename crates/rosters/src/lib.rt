@@ -9,8 +9,6 @@ mod present;
 pub use bits::{BitMemory, BitRoster, MOST_PLACES};
 pub use present::{PresentMemory, PresentRoster};
 
-// `leave` and `enter` of either roster answer a number and no `bool`: how many numbers came or went, as a book answers too.
-
 /// What a mailbox asks about its requesters. Asking changes nothing.
 pub trait Roster {
     /// The set of the numbers that have left.

@@ -4,12 +4,12 @@ ghost use Rattle.rosters.specs.Members.{absent};
 ghost use Rattle.rosters.specs.Sets.{Leaves, Enters};
 ghost use Rattle.table.specs.Tables.{items, capacity, Kept};
 
-use crate::Roster;
+use crate::{MOST_PLACES, Roster};
 use memory::Memory;
 use table::{Entry, Table};
 
 /// Memory for a table of up to 65,536 requesters.
-pub type PresentMemory<'a> = Memory<'a, Entry<u32, ()>, 0, 65536>;
+pub type PresentMemory<'a> = Memory<'a, Entry<u32, ()>, 0, MOST_PLACES>;
 
 /// Who has left, by a table of those who have not, in lent memory.
 #[derive(Drop)]
@@ -28,37 +28,23 @@ impl<'a> PresentRoster<'a> {
     }
 
     /// A requester leaves: 1 if it had not left before, else 0.
+    // A number and no `bool`: callers add up how many came and went.
     pub fn leave(&mut self, requester: u32) -> usize
         ensures leaves { Leaves (absent (items self.old.present)) (absent (items self.new.present)) requester result }
         ensures kept { Kept self.old.present self.new.present }
     {
-        usize::from(self.take_off(requester))
+        usize::from(self.present.remove(&requester).is_some())
     }
 
     /// A requester enters, where there is a place for it: 1 if it had left before, else 0.
+    // A number and no `bool`: callers add up how many came and went.
     pub fn enter(&mut self, requester: u32) -> usize
         ensures enters { Enters (nat_lt (length (items self.old.present)) (capacity self.old.present)) (absent (items self.old.present)) (absent (items self.new.present)) requester result }
         ensures kept { Kept self.old.present self.new.present }
     {
-        usize::from(self.put_on(requester))
-    }
-
-    /// Takes a requester off the table, and says whether it was there.
-    fn take_off(&mut self, requester: u32) -> bool
-        ensures leaves { Leaves (absent (items self.old.present)) (absent (items self.new.present)) requester (if result then 1 else 0) }
-        ensures kept { Kept self.old.present self.new.present }
-    {
-        self.present.remove(&requester).is_some()
-    }
-
-    /// Puts a requester on the table, if it has room, and says whether it is new there.
-    fn put_on(&mut self, requester: u32) -> bool
-        ensures enters { Enters (nat_lt (length (items self.old.present)) (capacity self.old.present)) (absent (items self.old.present)) (absent (items self.new.present)) requester (if result then 1 else 0) }
-        ensures kept { Kept self.old.present self.new.present }
-    {
         match self.present.insert(requester, ()) {
-            Ok(before) => before.is_none(),
-            Err(_) => false,
+            Ok(before) => usize::from(before.is_none()),
+            Err(_) => 0,
         }
     }
 }

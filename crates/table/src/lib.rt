@@ -92,10 +92,8 @@ impl<'a, K: Copy + TotalOrder, V: Copy> Table<'a, K, V> {
     pub fn get(&self, key: &K) -> Option<V>
         ensures { Lookup (items self.now) key.now result }
     {
-        match self.search(key) {
-            Ok(i) => Some(self.entries()[i].value),
-            Err(_) => None,
-        }
+        let i = self.search(key).ok()?;
+        Some(self.entries()[i].value)
     }
 
     /// Sets the value under the key, and gives back the one that stood there. A new key is refused where no slot is free.
@@ -128,17 +126,13 @@ impl<'a, K: Copy + TotalOrder, V: Copy> Table<'a, K, V> {
         ensures count { Shrunk self.old self.new result }
         ensures value { Removed K.TotalOrder.less (items self.old) key.now (items self.new) result }
     {
-        match self.search(key) {
-            Ok(i) => {
-                let len = self.len;
-                let old = self.slots[i].value;
-                // The entry goes last, and no longer counts; those that count are in order all along.
-                self.len = len - 1;
-                self.slots[i..len].rotate_left(1);
-                Some(old)
-            }
-            Err(_) => None,
-        }
+        let i = self.search(key).ok()?;
+        let len = self.len;
+        let old = self.slots[i].value;
+        // The entry goes last, and no longer counts; those that count are in order all along.
+        self.len = len - 1;
+        self.slots[i..len].rotate_left(1);
+        Some(old)
     }
 
     /// Removes the entries that the test does not keep, and says how many.

@@ -1,6 +1,8 @@
-use Rattle.std.proofs.Common.{◌-◌, refl, subst, arith, length-take, rules}
+use Rattle.std.proofs.Common.{◌≡◌, ℕ, ◌-◌, ◌<◌, Bool, List, length, Ok, Result, refl, subst, arith, length-take, rules}
 use Rattle.std.proofs.lemmas.List.{take-take}
+use Rattle.table.specs.declared.Entry.{Entry}
 use Rattle.table.specs.Orders.{Rising}
+use Rattle.table.specs.Searches.{Found, Searched, Within}
 use Rattle.table.specs.Tables.{items}
 use Rattle.table.proofs.Moved.{beyond_part}
 use Rattle.table.proofs.Ordered.{rising_take}
@@ -13,24 +15,34 @@ invariant_of-self-clause-rising g c =
     let less = g.K.TotalOrder.less in
     subst (Rising less) (take-take (t.len - 1) t.len t.slots.now (omega arith)) (rising_take less (t.len - 1) (items t) t.rising)
 
-pub invariant_of-self-in-Ok-clause-rising : goal.invariant_of-self-in-Ok-clause-rising
-invariant_of-self-in-Ok-clause-rising g c =
-    let t = c.args.self.now in
-    let e = c.in-Ok.ensures in
-    (row_removed g.K.TotalOrder.less g.met.K.TotalOrder.total t.slots.now t.len t.rising c.args.key.now c.in-Ok.i e.value e.within c.index-self-i.result c.rotate_left.new.self (search rules) (search rules)).0
+-- what a search says where it found the key
+found : {K V : Type 0} (less : K → K → Bool) (xs : List (Entry K V)) (k : K) (r : Result ℕ ℕ) (i : ℕ) → r ≡ Ok i → Searched less xs k r → Within (length xs) r
+    → Found less xs k i × (i < length xs)
+found less xs k r i e s w = (subst (Searched less xs k) e s, subst (Within (length xs)) e w)
 
-pub returns-in-Ok-clause-kept : goal.returns-in-Ok-clause-kept
-returns-in-Ok-clause-kept g c =
+pub invariant_of-self-2-clause-rising : goal.invariant_of-self-2-clause-rising
+invariant_of-self-2-clause-rising g c =
     let t = c.args.self.now in
-    let within = c.in-Ok.ensures.within in
+    let less = g.K.TotalOrder.less in
+    let i = c.in_ok-i.i in
+    let f = found less (items t) c.args.key.now c.search.result i (search rules) c.search.ensures.value c.search.ensures.within in
+    (row_removed less g.met.K.TotalOrder.total t.slots.now t.len t.rising c.args.key.now i f.0 f.1 c.index-self-i.result c.rotate_left.new.self (search rules) (search rules)).0
+
+pub returns-clause-kept : goal.returns-clause-kept
+returns-clause-kept g c =
+    let t = c.args.self.now in
+    let i = c.in_ok-i.i in
+    let within = (found g.K.TotalOrder.less (items t) c.args.key.now c.search.result i (search rules) c.search.ensures.value c.search.ensures.within).1 in
     let wide = length-take t.len t.slots.now in
     record {
       room = refl;
-      rest = beyond_part t.slots.now c.rotate_left.new.self c.in-Ok.i (t.len - c.in-Ok.i) t.size (search rules) t.fits c.rotate_left.ensures.len;
+      rest = beyond_part t.slots.now c.rotate_left.new.self i (t.len - i) t.size (search rules) t.fits c.rotate_left.ensures.len;
     }
 
-pub returns-in-Ok-clause-value : goal.returns-in-Ok-clause-value
-returns-in-Ok-clause-value g c =
+pub returns-clause-value : goal.returns-clause-value
+returns-clause-value g c =
     let t = c.args.self.now in
-    let e = c.in-Ok.ensures in
-    (row_removed g.K.TotalOrder.less g.met.K.TotalOrder.total t.slots.now t.len t.rising c.args.key.now c.in-Ok.i e.value e.within c.index-self-i.result c.rotate_left.new.self (search rules) (search rules)).1
+    let less = g.K.TotalOrder.less in
+    let i = c.in_ok-i.i in
+    let f = found less (items t) c.args.key.now c.search.result i (search rules) c.search.ensures.value c.search.ensures.within in
+    (row_removed less g.met.K.TotalOrder.total t.slots.now t.len t.rising c.args.key.now i f.0 f.1 c.index-self-i.result c.rotate_left.new.self (search rules) (search rules)).1
