@@ -6,7 +6,6 @@ ghost use Rattle.std.specs.Prelude.{◌≡◌, ◌≤◌, length, IfOk};
 use anyhow::anyhow;
 use digests::Digest;
 use keys::{Key, Reader};
-use order::Equality;
 use refusals::WriteError;
 use std::env;
 use std::time::{Duration, Instant};

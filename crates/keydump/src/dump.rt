@@ -49,6 +49,7 @@ impl<D: Digest> Dump<D> {
         Dump { last: None }
     }
 
+    // `totals` is passed and not held, since it counts for the keys of both digest types.
     /// Reads the keys in `bytes` one after another, to the end or to the first refusal, and prints each.
     pub fn keys(&mut self, rt: &impl Print, bytes: &[u8], totals: &mut Totals) -> io::Result<()> {
         let mut reader = Reader::new(bytes);

@@ -68,12 +68,13 @@ impl fmt::Display for LineError {
 fn digit(c: u8, column: usize) -> Result<u8, LineError>
     ensures { MatchResult result (λ d. HexDigit c d) (λ e. (e ≡ NotHexadecimal column) × ((d : ℕ) → HexDigit c d → ⊥)) }
 {
-    match char::from(c).to_digit(16) {
-        Some(digit) => Ok(digit as u8),
-        None => Err(LineError::NotHexadecimal { column }),
-    }
+    let digit = char::from(c).to_digit(16);
+    digit
+        .map(|digit| digit as u8)
+        .ok_or(LineError::NotHexadecimal { column })
 }
 
+// The allocator stands beside the text, here and in `parse`, as in every call that allocates.
 /// The bytes that `text` spells, two digits for each, the high one first. The first column of `text` is `column`.
 fn decode(heap: Global, text: &[u8], column: usize) -> Result<Vec<u8>, LineError>
     requires { column < 16 }

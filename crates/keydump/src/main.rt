@@ -25,6 +25,7 @@ fn run(rt: &HostRuntime) -> anyhow::Result<()> {
             Ok(Some(EncodedKeys { digest, bytes })) => {
                 let name = digest.name();
                 println!(rt; "line {number}: {name}")?;
+                // The digest type is a value here and a type from here on.
                 match digest {
                     DigestType::Bytes32 => bytes32.keys(rt, bytes.as_slice(), &mut totals)?,
                     DigestType::U64 => u64s.keys(rt, bytes.as_slice(), &mut totals)?,
