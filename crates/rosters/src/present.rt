@@ -29,6 +29,7 @@ impl<'a> PresentRoster<'a> {
 
     /// A requester leaves: 1 if it had not left before, else 0.
     // A number and no `bool`: callers add up how many came and went.
+    #[tactic(auto, using(crate::proofs::Members::leaves_removed))]
     pub fn leave(&mut self, requester: u32) -> usize
         ensures leaves { Leaves (absent (items self.old.present)) (absent (items self.new.present)) requester result }
         ensures kept { Kept self.old.present self.new.present }
@@ -38,6 +39,7 @@ impl<'a> PresentRoster<'a> {
 
     /// A requester enters, where there is a place for it: 1 if it had left before, else 0.
     // A number and no `bool`: callers add up how many came and went.
+    #[tactic(auto, using(crate::proofs::Members::enters_inserted))]
     pub fn enter(&mut self, requester: u32) -> usize
         ensures enters { Enters (nat_lt (length (items self.old.present)) (capacity self.old.present)) (absent (items self.old.present)) (absent (items self.new.present)) requester result }
         ensures kept { Kept self.old.present self.new.present }
@@ -52,6 +54,7 @@ impl<'a> PresentRoster<'a> {
 impl<'a> Roster for PresentRoster<'a> {
     ghost left = { λ r. absent (items r.present) };
 
+    #[tactic(auto, using(crate::proofs::Members::lookup_among))]
     fn has_left(&self, requester: u32) -> bool
         ensures { result ≡ absent (items self.now.present) requester }
     {
