@@ -1,0 +1,3 @@
+pub mod Floored
+pub mod Refusals
+pub mod Sets
