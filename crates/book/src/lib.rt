@@ -76,6 +76,7 @@ impl<'a, P: Copy + TotalOrder> Book<'a, P> {
     }
 
     /// Enters a pair, and says how many came: 0 if it was in already, else 1. A full book refuses a pair that is not in it.
+    // A number and no `bool`: callers add up how many came and went.
     pub fn enter(&mut self, pair: P) -> Result<usize, BookError<P>>
         ensures entered { MatchResult result (λ n. Entered (items self.old.pairs) (items self.new.pairs) pair n) (λ e. (refusal_of e ≡ refusal 12 pair) × (IsAmong (items self.old.pairs) pair → ⊥) × (length (items self.old.pairs) ≡ capacity self.old.pairs) × (self.new ≡ self.old)) }
         ensures kept { Kept self.old.pairs self.new.pairs }
@@ -87,6 +88,7 @@ impl<'a, P: Copy + TotalOrder> Book<'a, P> {
     }
 
     /// Removes a pair, and says how many went: 1 if it was in, else 0.
+    // A number and no `bool`: callers add up how many came and went.
     pub fn remove(&mut self, pair: &P) -> usize
         ensures went { Went (items self.old.pairs) (items self.new.pairs) pair.now result }
         ensures kept { Kept self.old.pairs self.new.pairs }

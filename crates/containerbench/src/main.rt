@@ -15,6 +15,8 @@ const QUEUE_SIZES: [usize; 3] = [64, 512, MOST_SLOTS];
 
 const TABLE_SIZES: [usize; 3] = [64, 512, 1024];
 
+// The loops count entries, keys and rounds, and no places in a slice.
+
 /// Fills a queue, and then takes the first entry and adds one behind in each round. The answer is a sum of what was taken.
 fn turn_queue(slots: &mut [u64], rounds: u64) -> Option<u64> {
     let size = slots.len();

@@ -15,6 +15,7 @@ pub const MOST_TARGETS: usize = 256;
 pub type RowMemory<'a, T> = Memory<'a, T, 1, MOST_TARGETS>;
 
 /// The targets of one group, in the order in which they came. Which slot a target has is free.
+// The whole lent slice beside the size: contracts speak of the memory beyond, which no call touches.
 #[derive(Drop)]
 pub struct Row<'a, T> {
     slots: &'a mut [T],
