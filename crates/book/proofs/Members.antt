@@ -3,7 +3,7 @@ use Rattle.std.proofs.Common.{◌≡◌, ℕ, zero, suc, Bool, true, false, cond
 use Rattle.std.specs.Prelude.{IsTrue, ◌↔◌, ◌⊎◌, ◌≢◌, filter}
 use Rattle.std.specs.List.{Contains}
 use Rattle.std.proofs.lemmas.Bool.{false≢true}
-use Rattle.std.proofs.lemmas.List.Elements.{Contains-append_right, Contains-append_cases}
+use Rattle.std.proofs.lemmas.List.Elements.{Contains-append_right, Contains-append_cases, Contains-push_cases}
 use Rattle.order.specs.Orders.{Total}
 use Rattle.table.specs.declared.Entry.{Entry}
 use Rattle.table.specs.Maps.{entry_of, Holds, Lookup, Assigned, Without}
@@ -32,13 +32,9 @@ module _ {P : Type 0} (xs : List (Entry P (Unit {0}))) (k : P) where
   )
 
 module _ {X : Type 0} where
-  sole : (y x : X) → Contains (y ∷ []) x → y ≡ x
-  sole y x (zero, l, e) = e
-  sole y x (suc k, l, e) = absurd (omega arith)
-
   contains_first : (y : X) (ys : List X) (x : X) → Contains (y ∷ ys) x ↔ ((y ≡ x) ⊎ Contains ys x)
   contains_first y ys x = (
-    λ h. elim (Contains-append_cases (y ∷ []) ys x h) [ inl c ↦ inl (sole y x c) | inr c ↦ inr c ],
+    λ h. elim (Contains-append_cases (y ∷ []) ys x h) [ inl c ↦ elim (Contains-push_cases [] y x c) [ inl e ↦ absurd (omega (arith, e.1)) | inr f ↦ inl f ] | inr c ↦ inr c ],
     λ h. elim h [ inl e ↦ (0, omega arith, e) | inr c ↦ Contains-append_right (y ∷ []) ys x c ],
   )
 
