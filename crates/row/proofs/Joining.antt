@@ -17,7 +17,7 @@ module _ {T : Type 0} (eq : T → T → Bool) where
   joined-append xs [] us = refl
   joined-append xs (t ∷ ts) us = joined-append (added eq xs t) ts us
 
-  longer_one : (xs : List T) (t : T) (b : Bool) → length xs ≤ length (cond b xs (xs ++ t ∷ []))
+  pub longer_one : (xs : List T) (t : T) (b : Bool) → length xs ≤ length (cond b xs (xs ++ t ∷ []))
   longer_one xs t true = omega arith
   longer_one xs t false = omega (arith, length-append xs (t ∷ []))
 

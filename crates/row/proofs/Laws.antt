@@ -6,6 +6,7 @@ use Rattle.std.proofs.lemmas.Bool.{cases_Bool, cases_lt, false≢true}
 use Rattle.std.proofs.lemmas.List.{take_at, take-take, take_all, get_or-take, get_or_push}
 use Rattle.std.proofs.lemmas.List.Elements.{Contains-append_left, Contains-append_right, Contains-append_cases, Contains-push, Contains-push_cases}
 use Rattle.row.specs.Joined.{among, added, joined}
+use Rattle.row.proofs.Joining.{longer_one}
 
 module _ {T : Type 0} (eq : T → T → Bool) (identity : (a b : T) → IsTrue (eq a b) ↔ (a ≡ b)) where
   among_is : (t : T) (xs : List T) → among eq t xs ≡ true → Contains xs t
@@ -23,10 +24,6 @@ module _ {T : Type 0} (eq : T → T → Bool) (identity : (a b : T) → IsTrue (
     λ h. elim h [ inl c ↦ Contains-append_left xs (u ∷ []) t c | inr f ↦ subst (Contains (xs ++ u ∷ [])) f (Contains-push xs u) ],
   )
 
-  sole : (y x : T) → Contains (y ∷ []) x → y ≡ x
-  sole y x (zero, l, e) = e
-  sole y x (suc k, l, e) = absurd (omega arith)
-
   pub joined_all : (xs ts : List T) (t : T) → Contains (joined eq xs ts) t ↔ (Contains xs t ⊎ Contains ts t)
   joined_all xs [] t = (λ h. inl h, λ h. elim h [ inl c ↦ c | inr c ↦ absurd (omega (arith, c.1)) ])
   joined_all xs (u ∷ us) t =
@@ -38,7 +35,7 @@ module _ {T : Type 0} (eq : T → T → Bool) (identity : (a b : T) → IsTrue (
         ],
         λ h. i.1 (elim h [
           | inl c ↦ inl (m.1 (inl c))
-          | inr c ↦ elim (Contains-append_cases (u ∷ []) us t c) [ inl d ↦ inl (m.1 (inr (sole u t d))) | inr d ↦ inr d ]
+          | inr c ↦ elim (Contains-append_cases (u ∷ []) us t c) [ inl d ↦ inl (m.1 (elim (Contains-push_cases [] u t d) [ inl e ↦ absurd (omega (arith, e.1)) | inr f ↦ inr f ])) | inr d ↦ inr d ]
         ]),
       )
 
@@ -46,16 +43,12 @@ module _ {T : Type 0} (eq : T → T → Bool) (identity : (a b : T) → IsTrue (
   front_one xs u true = take_all (length xs) xs (omega arith)
   front_one xs u false = take_at xs (u ∷ []) (length xs) refl
 
-  longer : (xs : List T) (u : T) (b : Bool) → length xs ≤ length (cond b xs (xs ++ u ∷ []))
-  longer xs u true = omega arith
-  longer xs u false = omega (arith, length-append xs (u ∷ []))
-
   -- the targets that were there stay in front, as they were
   pub joined_front : (xs ts : List T) → take (length xs) (joined eq xs ts) ≡ xs
   joined_front xs [] = take_all (length xs) xs (omega arith)
   joined_front xs (u ∷ us) =
       let ys : List T = added eq xs u in
-      sym (take-take (length xs) (length ys) (joined eq ys us) (longer xs u (among eq u xs))) ∙ ap (take (length xs)) (joined_front ys us) ∙ front_one xs u (among eq u xs)
+      sym (take-take (length xs) (length ys) (joined eq ys us) (longer_one eq xs u (among eq u xs))) ∙ ap (take (length xs)) (joined_front ys us) ∙ front_one xs u (among eq u xs)
 
   pub all_of : (new old list : List T) → new ≡ joined eq old list → (t : T) → Contains new t ↔ (Contains old t ⊎ Contains list t)
   all_of new old list e t =

@@ -1,7 +1,7 @@
 //! A row of targets, in memory that a caller lends.
 #![tactic(auto)]
 
-ghost use Rattle.std.specs.Prelude.{◌≡◌, ◌≢◌, ℕ, ◌<◌, ◌≤◌, ◌↔◌, ◌⊎◌, true, slice_index_or, [], length, take, is_ok, if◌then◌else◌, IfOk, nat_le};
+ghost use Rattle.std.specs.Prelude.{◌≡◌, ◌≢◌, ℕ, ◌<◌, ◌≤◌, ◌↔◌, ◌⊎◌, true, false, slice_index_or, [], length, take, is_ok, if◌then◌else◌, IfOk, nat_le};
 ghost use Rattle.std.specs.List.{Contains};
 ghost use Rattle.row.specs.Joined.{joined};
 
@@ -55,6 +55,7 @@ impl<'a, T: Copy + Equality> Row<'a, T> {
     pub fn open(&mut self, list: &[T]) -> Result<(), Full>
         ensures test { is_ok result ≡ nat_le (length list.now) (capacity self.old) }
         ensures items { items self.new ≡ (if is_ok result then list.now else items self.old) }
+        ensures same { is_ok result ≡ false → self.new ≡ self.old }
         ensures kept { Kept self.old self.new }
     {
         if list.len() > self.size {
