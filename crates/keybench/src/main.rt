@@ -6,6 +6,7 @@ ghost use Rattle.std.specs.Prelude.{◌≡◌, ◌≤◌, length, IfOk};
 use anyhow::anyhow;
 use digests::Digest;
 use keys::{Key, Reader};
+use order::Equality;
 use refusals::WriteError;
 use std::env;
 use std::time::{Duration, Instant};
@@ -53,7 +54,7 @@ fn read_keys(bytes: &[u8]) -> (u64, u64) {
     let mut read = 0;
     let mut equal = 0;
     while !reader.is_empty() && reader.next(&mut key).is_ok() {
-        if key == key_at(read) {
+        if key.equals(&key_at(read)) {
             equal += 1;
         }
         read += 1;

@@ -4,6 +4,7 @@ ghost use Rattle.std.specs.Prelude.{◌≡◌, None};
 use crate::totals::{Event, Totals};
 use digests::Digest;
 use keys::{Key, Reader};
+use order::TotalOrder;
 use refusals::Refusal;
 use std::cmp::Ordering;
 use std::{fmt, io};
@@ -107,7 +108,7 @@ impl<D: Digest> Dump<D> {
         let Some(last) = self.last.replace(key) else {
             return "the first";
         };
-        let (event, relation) = match key.cmp(&last) {
+        let (event, relation) = match key.compare(&last) {
             Ordering::Less => (Event::Less, "less than the one before"),
             Ordering::Equal => (Event::Equal, "equal to the one before"),
             Ordering::Greater => (Event::Greater, "greater than the one before"),

@@ -10,8 +10,9 @@ ghost use Rattle.std.proofs.Common.{rules};
 use crate::cursor::Cursor;
 use crate::error::ReadError;
 use digests::Digest;
-use order::{Equality, TotalOrder};
+use order::{Equality, LawfulEq, LawfulOrd, TotalOrder};
 use refusals::WriteError;
+use std::cmp::Ordering;
 use types::{Height, Round};
 
 /// The tags.
@@ -113,14 +114,42 @@ impl<D: Digest> Key<D> {
     }
 }
 
+// Case by case and not by `==` and `cmp`, which a digest type need not have.
+
 impl<D: Equality> Equality for Key<D> {
+    fn equals(&self, other: &Key<D>) -> bool {
+        match (self, other) {
+            (Key::Block(a), Key::Block(b)) => a.equals(b),
+            (Key::Finalized { height: a }, Key::Finalized { height: b }) => a.equals(b),
+            (Key::Notarized { round: a }, Key::Notarized { round: b }) => a.equals(b),
+            _ => false,
+        }
+    }
+}
+
+impl<D: LawfulEq> LawfulEq for Key<D> {
     ghost identity = { Prim.search rules };
 }
 
+/// By tag, then by content.
 impl<D: TotalOrder> TotalOrder for Key<D> {
     ghost less = { key_less D.TotalOrder.less };
 
-    ghost agrees = { Prim.search rules };
-
     ghost total = { key_total D.TotalOrder.total };
+
+    fn compare(&self, other: &Key<D>) -> Ordering {
+        match (self, other) {
+            (Key::Block(a), Key::Block(b)) => a.compare(b),
+            (Key::Finalized { height: a }, Key::Finalized { height: b }) => a.compare(b),
+            (Key::Notarized { round: a }, Key::Notarized { round: b }) => a.compare(b),
+            (Key::Block(_), _) => Ordering::Less,
+            (_, Key::Block(_)) => Ordering::Greater,
+            (Key::Finalized { height: _ }, _) => Ordering::Less,
+            (_, _) => Ordering::Greater,
+        }
+    }
+}
+
+impl<D: LawfulOrd> LawfulOrd for Key<D> {
+    ghost agrees = { Prim.search rules };
 }

@@ -3,7 +3,8 @@ ghost use Rattle.requests.specs.Annotations.{finalized_less, annotation_less};
 ghost use Rattle.std.proofs.Common.{rules};
 ghost use Rattle.requests.specs.Ordered.{annotation_total};
 
-use order::{Equality, TotalOrder};
+use order::{Equality, LawfulEq, LawfulOrd, TotalOrder};
+use std::cmp::Ordering;
 use types::{Height, Round};
 
 /// What is known of a finalized block before it is fetched.
@@ -14,15 +15,28 @@ pub enum Finalized {
 }
 
 impl Equality for Finalized {
+    fn equals(&self, other: &Finalized) -> bool {
+        self == other
+    }
+}
+
+impl LawfulEq for Finalized {
     ghost identity = { Prim.search rules };
 }
 
+/// By the case, in the order of the declaration, then by content.
 impl TotalOrder for Finalized {
     ghost less = { finalized_less };
 
-    ghost agrees = { Prim.search rules };
-
     ghost total = { Prim.search rules };
+
+    fn compare(&self, other: &Finalized) -> Ordering {
+        self.cmp(other)
+    }
+}
+
+impl LawfulOrd for Finalized {
+    ghost agrees = { Prim.search rules };
 }
 
 /// How the answer to a request is to be validated and stored.
@@ -39,13 +53,26 @@ pub enum Annotation {
 }
 
 impl Equality for Annotation {
+    fn equals(&self, other: &Annotation) -> bool {
+        self == other
+    }
+}
+
+impl LawfulEq for Annotation {
     ghost identity = { Prim.search rules };
 }
 
+/// By the case, in the order of the declaration, then by content.
 impl TotalOrder for Annotation {
     ghost less = { annotation_less };
 
-    ghost agrees = { Prim.search rules };
-
     ghost total = { annotation_total };
+
+    fn compare(&self, other: &Annotation) -> Ordering {
+        self.cmp(other)
+    }
+}
+
+impl LawfulOrd for Annotation {
+    ghost agrees = { Prim.search rules };
 }

@@ -6,7 +6,7 @@ ghost use Rattle.std.specs.List.{Contains};
 ghost use Rattle.row.specs.Joined.{joined};
 
 use memory::{Full, Memory};
-use order::Equality;
+use order::LawfulEq;
 
 /// The most targets that a row may have.
 pub const MOST_TARGETS: usize = 256;
@@ -25,7 +25,7 @@ pub struct Row<'a, T> {
     ghost filled: { len ≤ size },
 }
 
-impl<'a, T: Copy + Equality> Row<'a, T> {
+impl<'a, T: Copy + LawfulEq> Row<'a, T> {
     // Here and not at the top, since these definitions name the type.
     ghost use Rattle.row.specs.Rows.{items, capacity, Kept};
 
@@ -83,7 +83,7 @@ impl<'a, T: Copy + Equality> Row<'a, T> {
 }
 
 /// Adds the targets of a list that are not among the first `len` slots behind these, and says how many there are then.
-fn join_new<T: Copy + Equality>(slots: &mut [T], len: usize, list: &[T]) -> Result<usize, Full>
+fn join_new<T: Copy + LawfulEq>(slots: &mut [T], len: usize, list: &[T]) -> Result<usize, Full>
     requires { len ≤ length slots.old }
     ensures test { is_ok result ≡ nat_le (length (joined T.eq (take len slots.old) list.now)) (length slots.old) }
     ensures items { IfOk result (λ n. (take n slots.new ≡ joined T.eq (take len slots.old) list.now) × (n ≤ length slots.new)) }

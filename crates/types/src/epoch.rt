@@ -2,7 +2,8 @@
 ghost use Rattle.std.specs.Prelude.{◌≡◌, Some, decimal, nat_lt};
 ghost use Rattle.std.proofs.Common.{rules};
 
-use order::{Equality, TotalOrder};
+use order::{Equality, LawfulEq, LawfulOrd, TotalOrder};
+use std::cmp::Ordering;
 use std::fmt;
 
 /// A segment of the sequence of views under one set of validators.
@@ -25,15 +26,27 @@ impl Epoch {
 }
 
 impl Equality for Epoch {
+    fn equals(&self, other: &Epoch) -> bool {
+        self == other
+    }
+}
+
+impl LawfulEq for Epoch {
     ghost identity = { Prim.search rules };
 }
 
 impl TotalOrder for Epoch {
     ghost less = { λ a b. nat_lt a.0 b.0 };
 
-    ghost agrees = { Prim.search rules };
-
     ghost total = { Prim.search rules };
+
+    fn compare(&self, other: &Epoch) -> Ordering {
+        self.cmp(other)
+    }
+}
+
+impl LawfulOrd for Epoch {
+    ghost agrees = { Prim.search rules };
 }
 
 impl fmt::Display for Epoch {

@@ -2,7 +2,8 @@
 ghost use Rattle.std.specs.Prelude.{◌≡◌, Some, decimal, nat_lt};
 ghost use Rattle.std.proofs.Common.{rules};
 
-use order::{Equality, TotalOrder};
+use order::{Equality, LawfulEq, LawfulOrd, TotalOrder};
+use std::cmp::Ordering;
 use std::fmt;
 
 /// A position in the chain of blocks.
@@ -25,15 +26,27 @@ impl Height {
 }
 
 impl Equality for Height {
+    fn equals(&self, other: &Height) -> bool {
+        self == other
+    }
+}
+
+impl LawfulEq for Height {
     ghost identity = { Prim.search rules };
 }
 
 impl TotalOrder for Height {
     ghost less = { λ a b. nat_lt a.0 b.0 };
 
-    ghost agrees = { Prim.search rules };
-
     ghost total = { Prim.search rules };
+
+    fn compare(&self, other: &Height) -> Ordering {
+        self.cmp(other)
+    }
+}
+
+impl LawfulOrd for Height {
+    ghost agrees = { Prim.search rules };
 }
 
 impl fmt::Display for Height {

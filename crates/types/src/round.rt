@@ -5,7 +5,8 @@ ghost use Rattle.std.proofs.Common.{rules};
 
 use crate::epoch::Epoch;
 use crate::view::View;
-use order::{Equality, TotalOrder};
+use order::{Equality, LawfulEq, LawfulOrd, TotalOrder};
+use std::cmp::Ordering;
 use std::fmt;
 
 /// An epoch and a view in it. Rounds compare by epoch, then by view.
@@ -36,15 +37,27 @@ impl Round {
 }
 
 impl Equality for Round {
+    fn equals(&self, other: &Round) -> bool {
+        self == other
+    }
+}
+
+impl LawfulEq for Round {
     ghost identity = { Prim.search rules };
 }
 
 impl TotalOrder for Round {
     ghost less = { round_less };
 
-    ghost agrees = { Prim.search rules };
-
     ghost total = { Prim.search rules };
+
+    fn compare(&self, other: &Round) -> Ordering {
+        self.cmp(other)
+    }
+}
+
+impl LawfulOrd for Round {
+    ghost agrees = { Prim.search rules };
 }
 
 impl fmt::Display for Round {

@@ -2,7 +2,8 @@
 ghost use Rattle.std.specs.Prelude.{◌≡◌, Some, decimal, nat_lt};
 ghost use Rattle.std.proofs.Common.{rules};
 
-use order::{Equality, TotalOrder};
+use order::{Equality, LawfulEq, LawfulOrd, TotalOrder};
+use std::cmp::Ordering;
 use std::fmt;
 
 /// A position within one epoch.
@@ -25,15 +26,27 @@ impl View {
 }
 
 impl Equality for View {
+    fn equals(&self, other: &View) -> bool {
+        self == other
+    }
+}
+
+impl LawfulEq for View {
     ghost identity = { Prim.search rules };
 }
 
 impl TotalOrder for View {
     ghost less = { λ a b. nat_lt a.0 b.0 };
 
-    ghost agrees = { Prim.search rules };
-
     ghost total = { Prim.search rules };
+
+    fn compare(&self, other: &View) -> Ordering {
+        self.cmp(other)
+    }
+}
+
+impl LawfulOrd for View {
+    ghost agrees = { Prim.search rules };
 }
 
 impl fmt::Display for View {

@@ -11,14 +11,14 @@ none eq t xs k a l = ap (among eq t) (sym (take_all k xs l)) ∙ a
 pub next-preserved-then-equals : goal.next-preserved-then-equals
 next-preserved-then-equals g c =
     let eq = g.T.PartialEq.eq in
-    let same : eq c.held-item.result c.target-item.result ≡ true = (g.met.T.Equality.identity c.held-item.result c.target-item.result).1 (search rules) in
+    let same : eq c.held-item.result c.target-item.result ≡ true = (g.met.T.LawfulEq.identity c.held-item.result c.target-item.result).1 (search rules) in
     there eq c.args.slots.now c.args.list.now c.next.slots c.args.len c.next.target-index c.next.end c.next.invariant c.target-item.result c.next-test.true c.target-item.is
     (among_at eq c.target-item.result (take c.next.end c.next.slots) c.loop-held.held-index c.held-item.result c.loop-held-test.true c.held-item.is same)
 
 pub loop-held-preserved : goal.loop-held-preserved
 loop-held-preserved g c =
     let eq = g.T.PartialEq.eq in
-    let other : eq c.held-item.result c.target-item.result ≡ false = search (g.met.T.Equality.identity, rules) in
+    let other : eq c.held-item.result c.target-item.result ≡ false = search (g.met.T.LawfulEq.identity, rules) in
     among_more eq c.target-item.result (take c.next.end c.next.slots) c.loop-held.held-index c.held-item.result c.loop-held-test.true c.held-item.is c.loop-held.invariant other
 
 pub returns-then-end-slots-clause-test : goal.returns-then-end-slots-clause-test
