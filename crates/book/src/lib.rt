@@ -6,6 +6,7 @@ ghost use Rattle.std.specs.List.{slice_get};
 ghost use Rattle.std.specs.Option.{option_map};
 ghost use Rattle.refusals.specs.Refusals.{refusal};
 ghost use Rattle.requests.specs.Floors.{AboveHeight, AboveRound};
+ghost use Rattle.table.specs.Orders.{Rising, Rising-prop};
 ghost use Rattle.table.specs.Tables.{items, capacity, Kept};
 ghost use Rattle.book.specs.Refusals.{refusal_of};
 ghost use Rattle.book.specs.Sets.{IsAmong, Entered, Went, Raised};
@@ -35,6 +36,7 @@ pub type BookMemory<'a, P> = Memory<'a, Entry<P, ()>, 1, MOST_PAIRS>;
 #[derive(Drop)]
 pub struct Book<'a, P: TotalOrder> {
     pairs: Table<'a, P, ()>,
+    ghost rising: { Rising P.TotalOrder.less (items pairs) } by { Rising-prop P.TotalOrder.less (items pairs) },
 }
 
 impl<'a, P: Copy + TotalOrder> Book<'a, P> {

@@ -2,6 +2,7 @@
 ghost use Rattle.std.specs.Prelude.{◌≡◌, ℕ, true, length, if◌then◌else◌, nat_lt};
 ghost use Rattle.rosters.specs.Members.{absent};
 ghost use Rattle.rosters.specs.Sets.{Leaves, Enters};
+ghost use Rattle.table.specs.Orders.{Rising, Rising-prop};
 ghost use Rattle.table.specs.Tables.{items, capacity, Kept};
 
 use crate::{MOST_PLACES, Roster};
@@ -15,6 +16,7 @@ pub type PresentMemory<'a> = Memory<'a, Entry<u32, ()>, 0, MOST_PLACES>;
 #[derive(Drop)]
 pub struct PresentRoster<'a> {
     present: Table<'a, u32, ()>,
+    ghost rising: { Rising nat_lt (items present) } by { Rising-prop nat_lt (items present) },
 }
 
 impl<'a> PresentRoster<'a> {

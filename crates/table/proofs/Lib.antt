@@ -1,4 +1,3 @@
-pub mod Compared
 pub mod Edited
 pub mod Held
 pub mod Moved

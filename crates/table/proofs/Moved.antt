@@ -1,8 +1,8 @@
--- A row at the front of a list, of which one part is turned by one place. Assumes nothing.
-use Rattle.std.proofs.Common.{◌≡◌, ℕ, suc, ◌+◌, ◌-◌, ◌<◌, ◌≤◌, List, [], ◌∷◌, ◌++◌, length, take, drop, set, sym, ap, ◌∙◌, append_assoc, arith, length-take, length-append, length-set}
-use Rattle.std.specs.List.{insert, remove}
-use Rattle.std.proofs.lemmas.List.{take_at, drop_at, take_more_set, take-set-le, take-take, drop-drop, drop-append-le, length-drop}
-use Rattle.std.proofs.lemmas.List.Edits.{length-remove}
+-- A row at the front of a list, of which one part is turned or moved by one place. Assumes nothing.
+use Rattle.std.proofs.Common.{◌≡◌, ℕ, suc, ◌+◌, ◌-◌, ◌<◌, ◌≤◌, List, [], ◌∷◌, ◌++◌, length, take, drop, set, sym, ap, ◌∙◌, arith, length-take, length-append, length-set}
+use Rattle.std.specs.List.{copy_within, insert, remove}
+use Rattle.std.proofs.lemmas.List.{take_at, drop_at, take_more_set, take-set-le, take-take, drop-drop, drop-take, drop-append-le, length-drop}
+use Rattle.std.proofs.lemmas.List.Edits.{take-paste, drop-paste}
 use Rattle.std.proofs.lemmas.Slice.{between_is, take-put_mid, drop-put_mid}
 use borrow.Rule.Slice.PartMut.{put_mid}
 
@@ -30,30 +30,33 @@ module _ {X : Type 0} (xs : List X) (len i : ℕ) (ys : List X) where
       take-put_mid i (len + 1 - i) (set xs len x) ys (len + 1) (omega arith) (simp length-set (omega arith))
       ∙ ap (λ zs. zs ++ ys) (take-set-le i xs len x (omega arith) ∙ sym (take-take i len xs (omega arith))) ∙ ap (λ zs. take i row ++ zs) new
 
-  -- what stood in the i-th place is turned behind the others
-  pub turned_out : i < length (take len xs) → len ≤ length xs
-      → (let mid = take (len - i) (drop i xs) in ys ≡ drop 1 mid ++ take 1 mid)
-      → take (len - 1) (put_mid i (len - i) xs ys) ≡ remove (take len xs) i
-  turned_out lt le e =
-      let row : List X = take len xs in
-      let rest : List X = drop i row in
-      let wide = length-take len xs in
-      let n : suc i ≡ i + 1 = omega arith in
-      let behind : drop 1 rest ≡ drop (suc i) row = drop-drop 1 i row ∙ ap (λ m. drop m row) (sym n) in
-      let turned : ys ≡ drop 1 rest ++ take 1 rest = e ∙ ap (λ zs. drop 1 zs ++ take 1 zs) (between_is xs i len) in
-      let parts = length-append (drop 1 rest) (take 1 rest) in
-      let long : length ys ≡ length (drop 1 rest ++ take 1 rest) = ap length turned in
-      let first = length-take 1 rest in
-      let others = length-drop 1 rest in
-      let short = length-drop i row in
-      let left = length-remove row i lt in
-      sym (take-take (len - 1) len (put_mid i (len - i) xs ys) (omega arith))
-      ∙ ap (take (len - 1)) (
-      take-put_mid i (len - i) xs ys len (omega arith) (omega arith)
-      ∙ ap (λ zs. zs ++ ys) (sym (take-take i len xs (omega arith)))
-      ∙ ap (λ zs. take i row ++ zs) (turned ∙ ap (λ zs. zs ++ take 1 rest) behind)
-      ∙ sym (append_assoc (take i row) (drop (suc i) row) (take 1 rest)))
-      ∙ take_at (remove row i) (take 1 rest) (len - 1) (omega arith)
+-- those behind the i-th of the first len move down by one
+module _ {X : Type 0} (xs : List X) (len i : ℕ) where
+  module _ (lt : i < length (take len xs)) (le : len ≤ length xs) where
+    pub closed_up : take (len - 1) (copy_within xs (i + 1) len i) ≡ remove (take len xs) i
+    closed_up =
+        let wide = length-take len xs in
+        let behind = length-drop (i + 1) xs in
+        let n : i + (len - (i + 1)) ≡ len - 1 = omega arith in
+        let all : (i + 1) + (len - (i + 1)) ≡ len = omega arith in
+        let on : suc i ≡ i + 1 = omega arith in
+        let back : drop (suc i) (take len xs) ≡ take (len - (i + 1)) (drop (i + 1) xs) =
+        ap (λ m. drop m (take len xs)) on ∙ ap (λ m. drop (i + 1) (take m xs)) (sym all) ∙ drop-take (i + 1) (len - (i + 1)) xs in
+        ap (λ m. take m (copy_within xs (i + 1) len i)) (sym n)
+        ∙ take-paste xs i (drop (i + 1) xs) (len - (i + 1)) (omega arith) (omega arith)
+        ∙ ap (λ zs. zs ++ take (len - (i + 1)) (drop (i + 1) xs)) (sym (take-take i len xs (omega arith)))
+        ∙ ap (λ zs. take i (take len xs) ++ zs) (sym back)
+
+    pub beyond_closed : (size : ℕ) → len ≤ size → drop size (copy_within xs (i + 1) len i) ≡ drop size xs
+    beyond_closed size in' =
+        let wide = length-take len xs in
+        let behind = length-drop (i + 1) xs in
+        let m : ℕ = size - (i + (len - (i + 1))) in
+        let n : i + (len - (i + 1)) + m ≡ size = omega arith in
+        ap (λ k. drop k (copy_within xs (i + 1) len i)) (sym n)
+        ∙ sym (drop-drop m (i + (len - (i + 1))) (copy_within xs (i + 1) len i))
+        ∙ ap (drop m) (drop-paste xs i (drop (i + 1) xs) (len - (i + 1)) (omega arith) (omega arith))
+        ∙ drop-drop m (i + (len - (i + 1))) xs ∙ ap (λ k. drop k xs) n
 
 -- behind the part nothing changes
 pub beyond_part : {X : Type 0} (xs ys : List X) (i k size : ℕ) → i + k ≤ size → size ≤ length xs → length ys ≡ length (take k (drop i xs))

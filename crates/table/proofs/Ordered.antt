@@ -1,19 +1,13 @@
--- Entries in rising order: parts of a list, and what a search answers. Assumes nothing.
-use Rattle.std.proofs.Common.{◌≡◌, ℕ, zero, suc, ◌+◌, ◌<◌, ◌≤◌, Bool, true, List, [], ◌∷◌, ◌++◌, length, get_or, take, drop, sym, refl, ap, ◌∙◌, subst, arith, length-take}
-use Rattle.std.specs.Prelude.{Ok, Err, Result}
+-- Entries in rising order: parts of a list, and the steps of a search by halving. Assumes nothing.
+use Rattle.std.proofs.Common.{◌≡◌, ℕ, zero, suc, ◌+◌, ◌<◌, ◌≤◌, Bool, true, List, [], ◌∷◌, ◌++◌, length, get_or, take, drop, sym, refl, ap, ◌∙◌, subst, arith}
 use Rattle.std.specs.List.{All}
-use Rattle.std.specs.List.Sorted.{IsNonDecreasingBy, IsBinarySearchResult, IsSearchInRange}
-use Rattle.std.specs.Ordering.{ordering_index}
-use Rattle.std.specs.declared.cmp.Ordering.{Ordering}
-use Rattle.std.proofs.lemmas.List.{take_at, drop_at, take-append-drop, drop_more, length-take-le, length-drop, get_or-take, get_or-drop}
-use Rattle.std.proofs.lemmas.List.Elements.{All-nil, All-cons, All-head, All-tail, All-same, All-take, All-drop, All-append, All-weaker}
-use Rattle.order.specs.Comparisons.{Compares}
+use Rattle.std.proofs.lemmas.List.{take_at, drop_at, take-append-drop, drop_more, drop_all, length-take-le}
+use Rattle.std.proofs.lemmas.List.Elements.{All-nil, All-cons, All-head, All-tail, All-same, All-take, All-drop, All-append, All-weaker, All-more}
 use Rattle.order.specs.Orders.{Total}
 use Rattle.table.specs.declared.Entry.{Entry}
 use Rattle.table.specs.Maps.{entry_of, Absent}
 use Rattle.table.specs.Orders.{Rising, Around}
-use Rattle.table.specs.Searches.{Found, Missing, Searched}
-use Rattle.table.proofs.Compared.{rises}
+use Rattle.table.specs.Searches.{Found, Missing}
 use Rattle.table.proofs.Held.{absent_around}
 
 module _ {X : Type 0} where
@@ -72,30 +66,53 @@ module _ {K V : Type 0} (less : K → K → Bool) where
         rising_join front (e ∷ back) p.0 (a.above, p.1)
         (λ i d lt. All-cons (λ y. less (get_or front i d).key y.key ≡ true) e back (a.below i d lt) (p.2 i d lt))
 
-  module _ (total : Total less) (cmp : K → K → Ordering) (agrees : (a b : K) → Compares less a b (cmp a b)) (k : K) where
-    searchable : (xs : List (Entry K V)) → Rising less xs → IsNonDecreasingBy (λ e. ordering_index (cmp e.key k)) xs
-    searchable [] up i j d le lt = absurd (omega arith)
-    searchable (x ∷ xs) up zero zero d le lt = omega arith
-    searchable (x ∷ xs) up zero (suc j) d le lt =
-        let h : less x.key (get_or xs j d).key ≡ true = up.0 j d (omega arith) in
-        rises less total k x.key (get_or xs j d).key (cmp x.key k) (cmp (get_or xs j d).key k) h (agrees x.key k) (agrees (get_or xs j d).key k)
-    searchable (x ∷ xs) up (suc i) zero d le lt = absurd (omega arith)
-    searchable (x ∷ xs) up (suc i) (suc j) d le lt = searchable xs up.1 i j d (omega arith) (omega arith)
+  -- where a search stands: the keys below low are less than k, those from high on greater
+  pub record Narrowed (xs : List (Entry K V)) (k : K) (low high : ℕ) : Type 0 where
+    pub below : All (λ e. less e.key k ≡ true) (take low xs)
+    pub above : All (λ e. less k e.key ≡ true) (drop high xs)
 
-    found : (xs : List (Entry K V)) (m : ℕ) (d : Entry K V) → m < length xs → Rising less xs → (get_or xs m d).key ≡ k → Found less xs k m
-    found xs m d lt up e =
-        record {
-          front = take m xs;
-          value = (get_or xs m d).value;
-          back = drop (m + 1) xs;
-          is = split_at xs m d lt ∙ ap (λ q. take m xs ++ entry_of q (get_or xs m d).value ∷ drop (m + 1) xs) e;
-          place = length-take-le m xs (omega arith);
-          around = subst (λ q. Around less (take m xs) q (drop (m + 1) xs)) e
-              (rising_around (take m xs) (get_or xs m d) (drop (m + 1) xs) (subst (Rising less) (split_at xs m d lt) up));
-        }
+  -- before a search nothing is known
+  pub narrowed_all : (xs : List (Entry K V)) (k : K) → Narrowed xs k 0 (length xs)
+  narrowed_all xs k =
+      record {
+        below = All-nil (λ e. less e.key k ≡ true);
+        above = All-same (λ e. less k e.key ≡ true) (drop (length xs) xs) [] (drop_all (length xs) xs (omega arith)) (All-nil (λ e. less k e.key ≡ true));
+      }
 
-    missing : (xs : List (Entry K V)) (m : ℕ) → m ≤ length xs → Around less (take m xs) k (drop m xs) → Missing less xs k m
-    missing xs m le a =
+  module _ (total : Total less) (xs : List (Entry K V)) (k : K) where
+    -- what stands in the middle
+    module _ (m : ℕ) (d : Entry K V) (lt : m < length xs) (up : Rising less xs) where
+      here : Around less (take m xs) (get_or xs m d).key (drop (m + 1) xs)
+      here = rising_around (take m xs) (get_or xs m d) (drop (m + 1) xs) (subst (Rising less) (split_at xs m d lt) up)
+
+      pub below_more : less (get_or xs m d).key k ≡ true → All (λ e. less e.key k ≡ true) (take (m + 1) xs)
+      below_more h =
+          All-more (λ e. less e.key k ≡ true) xs m d lt
+          (All-weaker (λ e. less e.key (get_or xs m d).key ≡ true) (λ e. less e.key k ≡ true)
+          (λ e q. total.transitive e.key (get_or xs m d).key k q h) (take m xs) here.below)
+          h
+
+      pub above_more : less k (get_or xs m d).key ≡ true → All (λ e. less k e.key ≡ true) (drop m xs)
+      above_more h =
+          All-same (λ e. less k e.key ≡ true) (drop m xs) (get_or xs m d ∷ drop (m + 1) xs) (drop_more xs m d lt)
+          (All-cons (λ e. less k e.key ≡ true) (get_or xs m d) (drop (m + 1) xs) h
+          (All-weaker (λ e. less (get_or xs m d).key e.key ≡ true) (λ e. less k e.key ≡ true)
+          (λ e q. total.transitive k (get_or xs m d).key e.key h q) (drop (m + 1) xs) here.above))
+
+      pub found : (get_or xs m d).key ≡ k → Found less xs k m
+      found e =
+          record {
+            front = take m xs;
+            value = (get_or xs m d).value;
+            back = drop (m + 1) xs;
+            is = split_at xs m d lt ∙ ap (λ q. take m xs ++ entry_of q (get_or xs m d).value ∷ drop (m + 1) xs) e;
+            place = length-take-le m xs (omega arith);
+            around = subst (λ q. Around less (take m xs) q (drop (m + 1) xs)) e here;
+          }
+
+    pub missing : (m : ℕ) → m ≤ length xs → Narrowed xs k m m → Missing less xs k m
+    missing m le n =
+        let a : Around less (take m xs) k (drop m xs) = record { below = n.below; above = n.above } in
         record {
           front = take m xs;
           back = drop m xs;
@@ -104,25 +121,3 @@ module _ {K V : Type 0} (less : K → K → Bool) where
           around = a;
           absent = subst (λ zs. Absent zs k) (take-append-drop m xs) (absent_around less total (take m xs) k (drop m xs) a);
         }
-
-    -- what the library's search answers at keys that rise
-    pub searched : (xs : List (Entry K V)) (r : Result ℕ ℕ) → Rising less xs → IsSearchInRange r (length xs)
-        → IsBinarySearchResult (λ e. cmp e.key k) xs r → Searched less xs k r
-    searched [] (Ok i) up in' at = absurd (omega arith)
-    searched (x ∷ xs) (Ok i) up in' at =
-        let e : Entry K V = get_or (x ∷ xs) i x in
-        found (x ∷ xs) i x in' up (subst (Compares less e.key k) (at x) (agrees e.key k))
-    searched xs (Err i) up in' at =
-        let parts = at (searchable xs up) in
-        missing xs i in' (record {
-          below = λ j d lt.
-              let n = length-take i xs in
-              let e : Entry K V = get_or xs j d in
-              let h : less e.key k ≡ true = subst (Compares less e.key k) (parts.0 j d (omega arith) (omega arith)) (agrees e.key k) in
-              ap (λ y. less y.key k) (get_or-take i xs j d (omega arith)) ∙ h;
-          above = λ j d lt.
-              let n = length-drop i xs in
-              let e : Entry K V = get_or xs (i + j) d in
-              let h : less k e.key ≡ true = subst (Compares less e.key k) (parts.1 (i + j) d (omega arith) (omega arith)) (agrees e.key k) in
-              ap (λ y. less k y.key) (get_or-drop i xs j d) ∙ h;
-        })

@@ -1,5 +1,5 @@
 -- A row of entries at the front of a list, after an edit in the place that a search answered. Assumes nothing.
-use Rattle.std.proofs.Common.{◌≡◌, ℕ, ◌+◌, ◌-◌, ◌<◌, ◌≤◌, Bool, List, ◌++◌, length, get_or, take, drop, set, sym, subst, arith, length-take}
+use Rattle.std.proofs.Common.{◌≡◌, ℕ, ◌+◌, ◌-◌, ◌<◌, ◌≤◌, Bool, List, ◌++◌, length, get_or, take, drop, set, sym, ap, ◌∙◌, subst, arith, length-take}
 use Rattle.std.proofs.Math.Seq.{take-set-lt}
 use Rattle.std.proofs.lemmas.List.{get_or-take}
 use Rattle.order.specs.Orders.{Total}
@@ -9,7 +9,8 @@ use Rattle.table.specs.Maps.{entry_of}
 use Rattle.table.specs.Orders.{Rising}
 use Rattle.table.specs.Searches.{Found, Missing}
 use Rattle.table.proofs.Edited.{found_replaced, rising_replaced, found_removed, rising_removed, missing_added, rising_added}
-use Rattle.table.proofs.Moved.{turned_in, turned_out}
+use Rattle.std.specs.List.{copy_within}
+use Rattle.table.proofs.Moved.{turned_in, closed_up}
 use borrow.Rule.Slice.PartMut.{put_mid}
 
 module _ {K V : Type 0} (less : K → K → Bool) (total : Total less) (slots : List (Entry K V)) (len : ℕ) (up : Rising less (take len slots))
@@ -29,12 +30,12 @@ module _ {K V : Type 0} (less : K → K → Bool) (total : Total less) (slots : 
         let e = take-set-lt len slots i (entry_of x.key v) (omega arith) in
         (subst (Rising less) (sym e) (rising_replaced less total row i x d read within up v), found_replaced less total row i x d read k f v _ e)
 
-    -- the entry is turned out of the row
-    pub row_removed : (ys : List (Entry K V)) → len ≤ length slots → (let mid = take (len - i) (drop i slots) in ys ≡ drop 1 mid ++ take 1 mid)
-        → (let zs = take (len - 1) (put_mid i (len - i) slots ys) in Rising less zs × Dropped less row k (get_or slots i d).value zs)
-    row_removed ys le turned =
+    -- the entry is taken out of the row
+    pub row_removed : (ys : List (Entry K V)) → len ≤ length slots → ys ≡ copy_within slots (i + 1) len i
+        → (let zs = take (len - 1) ys in Rising less zs × Dropped less row k (get_or slots i d).value zs)
+    row_removed ys le closed =
         let x : Entry K V = get_or slots i d in
-        let e = turned_out slots len i ys within le turned in
+        let e = ap (take (len - 1)) closed ∙ closed_up slots len i within le in
         (subst (Rising less) (sym e) (rising_removed less total row i x d read within up), found_removed less total row i x d read k f _ e)
 
   -- an entry that was written behind the row is turned into it

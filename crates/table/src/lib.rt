@@ -6,11 +6,12 @@ ghost use Rattle.std.specs.List.{slice_get};
 ghost use Rattle.memory.specs.Sweeps.{retained, Steady};
 ghost use Rattle.table.specs.Edits.{Inserted, Removed};
 ghost use Rattle.table.specs.Maps.{Lookup};
-ghost use Rattle.table.specs.Orders.{Rising, Rising-prop};
+ghost use Rattle.table.specs.Orders.{Rising};
 ghost use Rattle.table.specs.Searches.{Searched, Within};
 
 use memory::{Filter, Full, Memory, sweep};
 use order::TotalOrder;
+use std::cmp::Ordering;
 use std::mem::replace;
 
 #[derive(Clone, Copy, Debug, PartialEq, Eq)]
@@ -20,15 +21,15 @@ pub struct Entry<K, V> {
 }
 
 /// Values by key in lent memory, each key once, in rising order.
-// The whole lent slice beside the size: contracts speak of the memory beyond, which no call touches.
+// The whole lent slice beside the size: contracts speak of the memory beyond, which no call touches. That the keys rise stands in the contracts and not
+// in a ghost field, which would ask for an ordered key wherever the type is named.
 #[derive(Drop)]
-pub struct Table<'a, K: TotalOrder, V> {
+pub struct Table<'a, K, V> {
     slots: &'a mut [Entry<K, V>],
     size: usize,
     len: usize,
     ghost fits: { size ≤ length slots.now },
     ghost filled: { len ≤ size },
-    pub ghost rising: { Rising K.TotalOrder.less (take len slots.now) } by { Rising-prop K.TotalOrder.less (take len slots.now) },
 }
 
 impl<'a, K: Copy + TotalOrder, V: Copy> Table<'a, K, V> {
@@ -83,14 +84,26 @@ impl<'a, K: Copy + TotalOrder, V: Copy> Table<'a, K, V> {
     /// Where the key stands, or else where it would.
     pub fn search(&self, key: &K) -> Result<usize, usize>
         ensures within { Within (length (items self.now)) result }
-        ensures value { Searched K.TotalOrder.less (items self.now) key.now result }
+        ensures value { Rising K.TotalOrder.less (items self.now) → Searched K.TotalOrder.less (items self.now) key.now result }
     {
-        self.entries().binary_search_by_key(key, |e| e.key)
+        // A loop of its own: the library's search halves until one entry is left, also where it has met the key.
+        let entries = self.entries();
+        let mut low = 0;
+        let mut high = entries.len();
+        while low < high {
+            let middle = low + (high - low) / 2;
+            match entries[middle].key.compare(key) {
+                Ordering::Less => low = middle + 1,
+                Ordering::Equal => return Ok(middle),
+                Ordering::Greater => high = middle,
+            }
+        }
+        Err(low)
     }
 
     /// The value under the key.
     pub fn get(&self, key: &K) -> Option<V>
-        ensures { Lookup (items self.now) key.now result }
+        ensures { Rising K.TotalOrder.less (items self.now) → Lookup (items self.now) key.now result }
     {
         let i = self.search(key).ok()?;
         Some(self.entries()[i].value)
@@ -100,7 +113,8 @@ impl<'a, K: Copy + TotalOrder, V: Copy> Table<'a, K, V> {
     pub fn insert(&mut self, key: K, value: V) -> Result<Option<V>, Full>
         ensures kept { Kept self.old self.new }
         ensures count { Grown self.old self.new result }
-        ensures value { Inserted K.TotalOrder.less (items self.old) key (capacity self.old) value (items self.new) result }
+        ensures order { Rising K.TotalOrder.less (items self.old) → Rising K.TotalOrder.less (items self.new) }
+        ensures value { Rising K.TotalOrder.less (items self.old) → Inserted K.TotalOrder.less (items self.old) key (capacity self.old) value (items self.new) result }
     {
         match self.search(&key) {
             Ok(i) => {
@@ -124,14 +138,14 @@ impl<'a, K: Copy + TotalOrder, V: Copy> Table<'a, K, V> {
     pub fn remove(&mut self, key: &K) -> Option<V>
         ensures kept { Kept self.old self.new }
         ensures count { Shrunk self.old self.new result }
-        ensures value { Removed K.TotalOrder.less (items self.old) key.now (items self.new) result }
+        ensures order { Rising K.TotalOrder.less (items self.old) → Rising K.TotalOrder.less (items self.new) }
+        ensures value { Rising K.TotalOrder.less (items self.old) → Removed K.TotalOrder.less (items self.old) key.now (items self.new) result }
     {
         let i = self.search(key).ok()?;
         let len = self.len;
         let old = self.slots[i].value;
-        // The entry goes last, and no longer counts; those that count are in order all along.
+        self.slots.copy_within(i + 1..len, i);
         self.len = len - 1;
-        self.slots[i..len].rotate_left(1);
         Some(old)
     }
 
@@ -142,11 +156,10 @@ impl<'a, K: Copy + TotalOrder, V: Copy> Table<'a, K, V> {
         ensures steady { Steady S.Filter.passes S.Filter.noted → items self.new ≡ filter (S.Filter.passes test.old) (items self.old) }
         ensures test { test.new ≡ fold S.Filter.noted test.old (items self.old) }
         ensures count { result + length (items self.new) ≡ length (items self.old) }
+        ensures order { Rising K.TotalOrder.less (items self.old) → Rising K.TotalOrder.less (items self.new) }
     {
         let size = self.size;
         let len = self.len;
-        // While entries move, none counts: those that count are in order all along.
-        self.len = 0;
         self.len = sweep(self.slots, size, 0, len, test);
         len - self.len
     }

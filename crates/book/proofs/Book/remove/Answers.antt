@@ -9,4 +9,4 @@ returns-clause-went g c =
     let before = items c.args.self.now.pairs in
     let after = items c.remove.new.self in
     let told : c.from.result ≡ cond (is_some c.remove.result) 1 0 = search rules in
-    subst (Went before after c.args.pair.now) (sym told) (went g.met.P.TotalOrder.total before after c.args.pair.now c.remove.result c.remove.ensures.value)
+    subst (Went before after c.args.pair.now) (sym told) (went g.met.P.TotalOrder.total before after c.args.pair.now c.remove.result (c.remove.ensures.value c.args.self.now.rising))

@@ -6,23 +6,18 @@ use Rattle.table.proofs.Moved.{beyond_part}
 use Rattle.table.proofs.Rows.{row_replaced, row_added}
 use Rattle.table.proofs.Table.insert.Goals as goal
 
-pub invariant_of-self-clause-rising : goal.invariant_of-self-clause-rising
-invariant_of-self-clause-rising g c =
+pub returns-in-Ok-clause-order : goal.returns-in-Ok-clause-order
+returns-in-Ok-clause-order g c =
     let t = c.args.self.now in
     let e = c.in-Ok.ensures in
-    (row_replaced g.K.TotalOrder.less g.met.K.TotalOrder.total t.slots.now t.len t.rising c.args.key c.in-Ok.i e.value e.within c.index-slots-i.result c.replace.new.dest).0
-
-pub invariant_of-self-in-Err-2-clause-rising : goal.invariant_of-self-in-Err-2-clause-rising
-invariant_of-self-in-Err-2-clause-rising g c =
-    let t = c.args.self.now in
-    let e = c.in-Err.ensures in
-    (row_added g.K.TotalOrder.less g.met.K.TotalOrder.total t.slots.now t.len t.rising c.args.key c.in-Err.i e.value e.within (search rules) c.args.value c.rotate_right.new.self (search rules)).0
+    λ up. (row_replaced g.K.TotalOrder.less g.met.K.TotalOrder.total t.slots.now t.len up c.args.key c.in-Ok.i (e.value up) e.within c.index-slots-i.result c.replace.new.dest).0
 
 pub returns-in-Ok-clause-value : goal.returns-in-Ok-clause-value
 returns-in-Ok-clause-value g c =
     let t = c.args.self.now in
     let e = c.in-Ok.ensures in
-    let done = row_replaced g.K.TotalOrder.less g.met.K.TotalOrder.total t.slots.now t.len t.rising c.args.key c.in-Ok.i e.value e.within c.index-slots-i.result c.args.value in
+    λ up.
+    let done = row_replaced g.K.TotalOrder.less g.met.K.TotalOrder.total t.slots.now t.len up c.args.key c.in-Ok.i (e.value up) e.within c.index-slots-i.result c.args.value in
     search rules
 
 pub returns-else-self-clause-kept : goal.returns-else-self-clause-kept
@@ -39,10 +34,15 @@ returns-else-self-clause-kept g c =
           ∙ drop-set-lt t.size slots t.len e free;
     }
 
+pub returns-else-self-clause-order : goal.returns-else-self-clause-order
+returns-else-self-clause-order g c =
+    let t = c.args.self.now in
+    let e = c.in-Err.ensures in
+    λ up. (row_added g.K.TotalOrder.less g.met.K.TotalOrder.total t.slots.now t.len up c.args.key c.in-Err.i (e.value up) e.within (search rules) c.args.value c.rotate_right.new.self (search rules)).0
+
 pub returns-else-self-clause-value : goal.returns-else-self-clause-value
 returns-else-self-clause-value g c =
     let t = c.args.self.now in
     let e = c.in-Err.ensures in
-    let done = row_added g.K.TotalOrder.less g.met.K.TotalOrder.total t.slots.now t.len t.rising c.args.key c.in-Err.i e.value e.within (search rules) c.args.value c.rotate_right.new.self (search rules) in
     let free : length (items t) < capacity t = search rules in
-    search rules
+    λ up. ((row_added g.K.TotalOrder.less g.met.K.TotalOrder.total t.slots.now t.len up c.args.key c.in-Err.i (e.value up) e.within (search rules) c.args.value c.rotate_right.new.self (search rules)).1, free)
