@@ -4,7 +4,6 @@ ghost use Rattle.requests.specs.Floors.{AboveHeight, AboveRound};
 ghost use Rattle.requests.specs.Requests.{key_of, annotation_of};
 
 use crate::annotation::{Annotation, Finalized};
-use crate::floor;
 use keys::Key;
 use types::{Cutoff, Height, Round};
 
@@ -106,15 +105,40 @@ impl<D: Copy> Request<D> {
     pub fn above_height_floor(&self, floor: Height) -> bool
         ensures { MatchBool result (AboveHeight floor (key_of self.now) (annotation_of self.now)) (AboveHeight floor (key_of self.now) (annotation_of self.now) → ⊥) }
     {
-        let (key, annotation) = self.into_inner();
-        floor::above_height_floor(floor, &key, &annotation)
+        // Case by case and not by the pair: that would copy the digest to read a number.
+        match self.kind {
+            RequestKind::Finalized { height } => height > floor,
+            RequestKind::Untrusted {
+                commitment: _,
+                height,
+            }
+            | RequestKind::Certified {
+                commitment: _,
+                height,
+            }
+            | RequestKind::FinalizedByHeight {
+                commitment: _,
+                height,
+            } => height > floor,
+            RequestKind::Notarized { round: _ }
+            | RequestKind::FinalizedByRound {
+                commitment: _,
+                round: _,
+            } => true,
+        }
     }
 
     /// As the free `above_round_floor` of its key and annotation.
     pub fn above_round_floor(&self, cutoff: Cutoff) -> bool
         ensures { MatchBool result (AboveRound cutoff (key_of self.now) (annotation_of self.now)) (AboveRound cutoff (key_of self.now) (annotation_of self.now) → ⊥) }
     {
-        let (key, annotation) = self.into_inner();
-        floor::above_round_floor(cutoff, &key, &annotation)
+        match self.kind {
+            RequestKind::Notarized { round } => !cutoff.covers(round),
+            RequestKind::FinalizedByRound {
+                commitment: _,
+                round,
+            } => !cutoff.covers(round),
+            _ => true,
+        }
     }
 }
