@@ -181,6 +181,13 @@ pub size_at : (n p : ℕ) → 2 ^ p ≤ max n 1 → max n 1 < 2 * 2 ^ p → leng
 size_at zero p h k = omega (arith, length-encode_last 0 (omega arith), size_by p p 1 (omega arith) h k, length-encode_last 1 (omega arith))
 size_at (suc n) p h k = size_by p p (suc n) (omega arith) (omega arith) (omega arith)
 
+-- the short numbers
+pub one_byte : (n : ℕ) → n < 128 → length (encode n) ≡ 1
+one_byte = length-encode_last
+
+pub two_bytes : (n : ℕ) → 128 ≤ n → n < 16384 → length (encode n) ≡ 2
+two_bytes n h k = omega (arith, length-encode_more n h, length-encode_last (n / 128) (omega arith))
+
 -- the bytes of n: p with the high bit and one without; the last is not 0 unless it is the first, and counts 2 ^ (7 * p) fold
 pub record Shape (n : ℕ) : Type 0 where
   pub p : ℕ

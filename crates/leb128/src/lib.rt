@@ -69,12 +69,19 @@ pub fn read(bytes: &[u8]) -> Result<(u64, &[u8]), NumberError>
 }
 
 /// How many bytes `n` is written in: one for each seven bits up to its highest.
-#[tactic(auto, using(crate::proofs::Numbers::size_at))]
+#[tactic(auto, using(crate::proofs::Numbers::size_at, crate::proofs::Numbers::one_byte, crate::proofs::Numbers::two_bytes))]
 pub fn encode_size(n: u64) -> usize
     ensures value { result ≡ length (encode n) }
     ensures bound { result ≤ 10 }
 {
-    (n.max(1).ilog2() / 7 + 1) as usize
+    // Most numbers are short, and told by two comparisons.
+    if n < 128 {
+        1
+    } else if n < 16384 {
+        2
+    } else {
+        (n.ilog2() / 7 + 1) as usize
+    }
 }
 
 /// Writes `n` into `out`, which has as many bytes as that takes.
