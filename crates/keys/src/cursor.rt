@@ -19,7 +19,7 @@ use types::{Epoch, Height, Round, View};
 #[derive(Clone, Copy)]
 pub struct Cursor<'b> {
     bytes: &'b [u8],
-    place: usize,
+    pub(crate) place: usize,
     ghost within: { place ≤ length bytes.now },
 }
 

@@ -28,7 +28,7 @@ impl TotalOrder for [u8; 32] {
         if self[0] == other[0] {
             self.cmp(other)
         } else {
-            self[0].cmp(&other[0])
+            self[0].compare(&other[0])
         }
     }
 }

@@ -27,7 +27,7 @@ impl Epoch {
 
 impl Equality for Epoch {
     fn equals(&self, other: &Epoch) -> bool {
-        self == other
+        self.get().equals(&other.get())
     }
 }
 
@@ -41,7 +41,7 @@ impl TotalOrder for Epoch {
     ghost total = { Prim.search rules };
 
     fn compare(&self, other: &Epoch) -> Ordering {
-        self.cmp(other)
+        self.get().compare(&other.get())
     }
 }
 

@@ -27,7 +27,7 @@ impl Height {
 
 impl Equality for Height {
     fn equals(&self, other: &Height) -> bool {
-        self == other
+        self.get().equals(&other.get())
     }
 }
 
@@ -41,7 +41,7 @@ impl TotalOrder for Height {
     ghost total = { Prim.search rules };
 
     fn compare(&self, other: &Height) -> Ordering {
-        self.cmp(other)
+        self.get().compare(&other.get())
     }
 }
 

@@ -38,7 +38,8 @@ impl Round {
 
 impl Equality for Round {
     fn equals(&self, other: &Round) -> bool {
-        self == other
+        let Round { epoch, view } = *self;
+        epoch.equals(&other.epoch) && view.equals(&other.view)
     }
 }
 
@@ -52,7 +53,10 @@ impl TotalOrder for Round {
     ghost total = { Prim.search rules };
 
     fn compare(&self, other: &Round) -> Ordering {
-        self.cmp(other)
+        match self.epoch.compare(&other.epoch) {
+            Ordering::Equal => self.view.compare(&other.view),
+            first => first,
+        }
     }
 }
 

@@ -27,7 +27,7 @@ impl View {
 
 impl Equality for View {
     fn equals(&self, other: &View) -> bool {
-        self == other
+        self.get().equals(&other.get())
     }
 }
 
@@ -41,7 +41,7 @@ impl TotalOrder for View {
     ghost total = { Prim.search rules };
 
     fn compare(&self, other: &View) -> Ordering {
-        self.cmp(other)
+        self.get().compare(&other.get())
     }
 }
 
